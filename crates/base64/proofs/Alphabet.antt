@@ -1,0 +1,60 @@
+-- The alphabet: the character of a value has that value, and no other byte has it. Assumes nothing.
+use mathlib.Core.Path.{_≡_, refl, sym, ap, _∙_}
+use mathlib.Core.Logic.{_≢_}
+use mathlib.Core.Bool.{Bool, true, false, cond}
+use mathlib.Core.List.{List, [], _∷_}
+use Prim.Native.Nat.{ℕ, zero, suc, _+_, _-_, _≤_, _<_}
+use native.Mathlib.Omega.{arith}
+use lib.Dec.{T, eqb, eqb→eq, ltb}
+use lib.ListN.{length, getD}
+use borrow.Author.Tests.{eqb-true, eqb-false, lt-ltb, le-ltb}
+use Rattle.base64.specs.Alphabet.{Sextet, AlphabetChar, alphabet, charOf, placeIn, valueOf, pad, answerOf}
+use Rattle.base64.specs.declared.Value.the-variants.{Of, Outside}
+use Rattle.base64.proofs.Tests.{run, below-at, run-at}
+
+-- What stands at the place of c is c.
+place-found : (xs : List ℕ) (c : ℕ) → placeIn xs c < length xs → getD xs (placeIn xs c) 0 ≡ c
+unfolding placeIn
+place-found [] c h = absurd (omega arith)
+place-found (x ∷ xs) c h = go (eqb x c) refl (place-found xs c)
+  where
+    go : (b : Bool) → eqb x c ≡ b → (placeIn xs c < length xs → getD xs (placeIn xs c) 0 ≡ c) → getD (x ∷ xs) (placeIn (x ∷ xs) c) 0 ≡ c
+    go true e later = rw (placeIn, e) (eqb-true x c e)
+    go false e later = rw (placeIn, e) (later (let k : cond (eqb x c) 0 (suc (placeIn xs c)) < suc (length xs) = h in let l : suc (placeIn xs c) < suc (length xs) = rw e at k in omega arith))
+
+-- The character of a value has that value: one test over the alphabet.
+pub value-char : (v : ℕ) → Sextet v → valueOf (charOf v) ≡ v
+unfolding valueOf placeIn alphabet
+value-char v h = eqb→eq _ _ (below-at (λ k. eqb (valueOf (charOf k)) k) 64 tt v h)
+
+-- No other byte has it.
+pub char-value : (c : ℕ) → AlphabetChar c → charOf (valueOf c) ≡ c
+unfolding valueOf alphabet
+char-value c h = place-found alphabet c h
+
+pub value-unique : (c d : ℕ) → AlphabetChar c → valueOf c ≡ valueOf d → c ≡ d
+value-unique c d h e = sym (char-value c h) ∙ ap charOf e ∙ char-value d (rw e at h)
+
+-- The pad is no character of the alphabet.
+pub pad-outside : valueOf pad ≡ 64
+unfolding valueOf placeIn alphabet
+pad-outside = refl
+
+-- The values of a run of bytes that stand in the alphabet one after the other, first for the value v, and of bytes outside.
+abbrev rising : ℕ → ℕ → ℕ → Bool
+rising first v c = eqb (valueOf c) (c - first + v)
+
+abbrev outside : ℕ → Bool
+outside c = eqb (valueOf c) 64
+
+-- So answers the code: a byte of such a run, a byte outside.
+pub answer-rising : (first n v : ℕ) → T (run (rising first v) first n) → (c x : ℕ)
+    → (first ≤ c) × (c < first + n) × (x ≡ c - first + v) × Sextet x → Of x ≡ answerOf c
+answer-rising first n v t c x h =
+    let e : valueOf c ≡ x = eqb→eq _ _ (run-at (rising first v) first n t c (h .0) (h .1)) ∙ sym (h .2) in
+    rw (answerOf, e, lt-ltb x 64 (h .3))
+
+pub answer-outside : (first n : ℕ) → T (run outside first n) → (c : ℕ) → (first ≤ c) × (c < first + n) → Outside ≡ answerOf c
+answer-outside first n t c h =
+    let e : valueOf c ≡ 64 = eqb→eq _ _ (run-at outside first n t c (h .0) (h .1)) in
+    rw (answerOf, e)

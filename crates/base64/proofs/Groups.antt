@@ -1,0 +1,149 @@
+-- Bytes, values and characters, there and back. Assumes nothing.
+use mathlib.Core.Path.{_≡_, refl, sym, _∙_, ap, ap₂}
+use mathlib.Core.Logic.{_≢_, _⊎_, inl, inr}
+use mathlib.Core.List.{List, [], _∷_, _++_, map}
+use Prim.Native.Nat.{ℕ, zero, suc, _+_, _*_, _/_, _%_, _≤_, _<_}
+use native.Mathlib.Omega.{arith}
+use lib.ListN.{length, replicate, length-append, length-map, length-replicate}
+use Rattle.base64.specs.Lists.{All}
+use Rattle.base64.specs.Alphabet.{Sextet, Octet, AlphabetChar, charOf, valueOf, pad}
+use Rattle.base64.specs.Groups.{value1, value2, value3, value4, toValues, padsFor, byte1, byte2, byte3, toBytes, spareBits, CountsFit, valuesOf, charsOf, encode, decode}
+use Rattle.base64.proofs.Lists.{all-map, map-undone}
+use Rattle.base64.proofs.Alphabet.{value-char, char-value}
+
+-- ---- kinds and counts
+
+pub values-sextets : (d : List ℕ) → All Octet d → All Sextet (toValues d)
+unfolding toValues
+values-sextets [] h = tt
+values-sextets (x ∷ []) h = (omega arith, (omega arith, tt))
+values-sextets (x ∷ y ∷ []) h = (omega arith, (omega arith, (omega arith, tt)))
+values-sextets (x ∷ y ∷ z ∷ r) h = (omega arith, (omega arith, (omega arith, (omega arith, values-sextets r (h .1 .1 .1)))))
+
+pub bytes-octets : (v : List ℕ) → All Sextet v → All Octet (toBytes v)
+unfolding toBytes
+bytes-octets [] h = tt
+bytes-octets (a ∷ []) h = tt
+bytes-octets (a ∷ b ∷ []) h = (omega arith, tt)
+bytes-octets (a ∷ b ∷ c ∷ []) h = (omega arith, (omega arith, tt))
+bytes-octets (a ∷ b ∷ c ∷ d ∷ r) h = (omega arith, (omega arith, (omega arith, bytes-octets r (h .1 .1 .1 .1))))
+
+-- What is encoded has no spare bits, and its counts fit.
+pub values-spare : (d : List ℕ) → spareBits (toValues d) ≡ 0
+unfolding toValues spareBits
+values-spare [] = refl
+values-spare (x ∷ []) = omega arith
+values-spare (x ∷ y ∷ []) = omega arith
+values-spare (x ∷ y ∷ z ∷ r) = values-spare r
+
+counts-more : (n p : ℕ) → CountsFit n p → CountsFit (suc (suc (suc (suc n)))) p
+counts-more n p (inl h) = inl (omega arith)
+counts-more n p (inr (inl h)) = inr (inl (omega arith))
+counts-more n p (inr (inr h)) = inr (inr (omega arith))
+
+counts-less : (n p : ℕ) → CountsFit (suc (suc (suc (suc n)))) p → CountsFit n p
+counts-less n p (inl h) = inl (omega arith)
+counts-less n p (inr (inl h)) = inr (inl (omega arith))
+counts-less n p (inr (inr h)) = inr (inr (omega arith))
+
+-- Pads fill a group up.
+pub counts-pads : (n p : ℕ) → CountsFit n p → ((n + p) % 4 ≡ 0) × (p ≤ 2)
+counts-pads n p (inl h) = omega arith
+counts-pads n p (inr (inl h)) = omega arith
+counts-pads n p (inr (inr h)) = omega arith
+
+pub values-counts : (d : List ℕ) → CountsFit (length (toValues d)) (padsFor d)
+unfolding toValues padsFor
+values-counts [] = inl (refl, refl)
+values-counts (x ∷ []) = inr (inl (refl, refl))
+values-counts (x ∷ y ∷ []) = inr (inr (refl, refl))
+values-counts (x ∷ y ∷ z ∷ r) = counts-more (length (toValues r)) (padsFor r) (values-counts r)
+
+-- ---- decoding inverts encoding
+
+byte1-back : (x y : ℕ) → Octet y → byte1 (value1 x) (value2 x y) ≡ x
+byte1-back x y h = omega arith
+
+byte2-back : (x y z : ℕ) → Octet y → Octet z → byte2 (value2 x y) (value3 y z) ≡ y
+byte2-back x y z h k = omega arith
+
+byte3-back : (y z : ℕ) → Octet z → byte3 (value3 y z) (value4 z) ≡ z
+byte3-back y z h = omega arith
+
+pub bytes-values : (d : List ℕ) → All Octet d → toBytes (toValues d) ≡ d
+unfolding toValues toBytes
+bytes-values [] h = refl
+bytes-values (x ∷ []) h = λ i. byte1-back x 0 (omega arith) i ∷ []
+bytes-values (x ∷ y ∷ []) h = λ i. byte1-back x y (h .1 .0) i ∷ byte2-back x y 0 (h .1 .0) (omega arith) i ∷ []
+bytes-values (x ∷ y ∷ z ∷ r) h =
+    λ i. byte1-back x y (h .1 .0) i ∷ byte2-back x y z (h .1 .0) (h .1 .1 .0) i ∷ byte3-back y z (h .1 .1 .0) i ∷ bytes-values r (h .1 .1 .1) i
+
+pub decode-chars : (d : List ℕ) → All Octet d → decode (charsOf d) ≡ d
+decode-chars d h = ap toBytes (map-undone charOf valueOf Sextet value-char (toValues d) (values-sextets d h)) ∙ bytes-values d h
+
+-- ---- encoding inverts decoding where the spare bits are zero
+
+value1-back : (a b : ℕ) → Sextet b → value1 (byte1 a b) ≡ a
+value1-back a b h = omega arith
+
+value2-back : (a b c : ℕ) → Sextet b → Sextet c → value2 (byte1 a b) (byte2 b c) ≡ b
+value2-back a b c h k = omega arith
+
+value3-back : (b c d : ℕ) → Sextet c → Sextet d → value3 (byte2 b c) (byte3 c d) ≡ c
+value3-back b c d h k = omega arith
+
+value4-back : (c d : ℕ) → Sextet d → value4 (byte3 c d) ≡ d
+value4-back c d h = omega arith
+
+-- The counts also say how many pads the bytes have.
+pub values-bytes : (v : List ℕ) (p : ℕ) → All Sextet v → CountsFit (length v) p → spareBits v ≡ 0
+    → (toValues (toBytes v) ≡ v) × (padsFor (toBytes v) ≡ p)
+unfolding toValues toBytes padsFor spareBits
+values-bytes [] p h f s = (refl, omega (arith, counts-pads 0 p f))
+values-bytes (a ∷ []) p h f s = absurd (omega (arith, counts-pads 1 p f))
+values-bytes (a ∷ b ∷ []) p h f s =
+    let e : value2 (byte1 a b) 0 ≡ b = omega arith in
+    (λ i. value1-back a b (h .1 .0) i ∷ e i ∷ [], omega (arith, counts-pads 2 p f))
+values-bytes (a ∷ b ∷ c ∷ []) p h f s =
+    let e : value3 (byte2 b c) 0 ≡ c = omega arith in
+    (λ i. value1-back a b (h .1 .0) i ∷ value2-back a b c (h .1 .0) (h .1 .1 .0) i ∷ e i ∷ [], omega (arith, counts-pads 3 p f))
+values-bytes (a ∷ b ∷ c ∷ d ∷ r) p h f s =
+    let rest = values-bytes r p (h .1 .1 .1 .1) (counts-less (length r) p f) s in (
+      λ i. value1-back a b (h .1 .0) i ∷ value2-back a b c (h .1 .0) (h .1 .1 .0) i ∷ value3-back b c d (h .1 .1 .0) (h .1 .1 .1 .0) i
+          ∷ value4-back c d (h .1 .1 .1 .0) i ∷ rest .0 i,
+      rest .1,
+    )
+
+pub encode-decode : (cs : List ℕ) (p : ℕ) → All AlphabetChar cs → CountsFit (length cs) p → spareBits (valuesOf cs) ≡ 0
+    → encode (decode cs) ≡ cs ++ replicate p pad
+encode-decode cs p h f s =
+    let back = values-bytes (valuesOf cs) p (all-map valueOf AlphabetChar Sextet (λ c k. k) cs h) (rw length-map f) s in
+    let chars : charsOf (decode cs) ≡ cs = ap (map charOf) (back .0) ∙ map-undone valueOf charOf AlphabetChar char-value cs h in
+    λ i. chars i ++ replicate (back .1 i) pad
+
+-- ---- lengths
+
+length-values : (d : List ℕ) → length (toValues d) + padsFor d ≡ 4 * ((length d + 2) / 3)
+unfolding toValues padsFor
+length-values [] = omega arith
+length-values (x ∷ []) = omega arith
+length-values (x ∷ y ∷ []) = omega arith
+length-values (x ∷ y ∷ z ∷ r) =
+    let rest : length (toValues r) + padsFor r ≡ 4 * ((length r + 2) / 3) = length-values r in
+    omega arith
+
+pub length-encode : (d : List ℕ) → length (encode d) ≡ 4 * ((length d + 2) / 3)
+length-encode d = simp (length-append, length-map, length-replicate) (length-values d)
+
+length-bytes : (v : List ℕ) → length (toBytes v) ≡ length v * 3 / 4
+unfolding toBytes
+length-bytes [] = omega arith
+length-bytes (a ∷ []) = omega arith
+length-bytes (a ∷ b ∷ []) = omega arith
+length-bytes (a ∷ b ∷ c ∷ []) = omega arith
+length-bytes (a ∷ b ∷ c ∷ d ∷ r) =
+    let rest : length (toBytes r) ≡ length r * 3 / 4 = length-bytes r in
+    omega arith
+
+pub length-decode : (cs : List ℕ) → length (decode cs) ≡ length cs * 3 / 4
+length-decode cs = length-bytes (valuesOf cs) ∙ rw length-map

@@ -1,0 +1,24 @@
+-- Lists whose elements are all of one kind. Assumes nothing.
+use mathlib.Core.Path.{_≡_, refl}
+use mathlib.Core.List.{List, [], _∷_, _++_, map}
+use Prim.Native.Nat.{ℕ}
+use Rattle.base64.specs.Lists.{All}
+
+pub all-append : {A : Type 0} (P : A → Type 0) (a b : List A) → All P a → All P b → All P (a ++ b)
+all-append P [] b ha hb = hb
+all-append P (x ∷ a) b ha hb = (ha .0, all-append P a b (ha .1) hb)
+
+pub all-imp : {A : Type 0} (P Q : A → Type 0) → ((x : A) → P x → Q x) → (a : List A) → All P a → All Q a
+all-imp P Q f [] h = tt
+all-imp P Q f (x ∷ a) h = (f x (h .0), all-imp P Q f a (h .1))
+
+-- What holds of the images of a P holds of the images of a list of them.
+pub all-map : {A B : Type 0} (f : A → B) (P : A → Type 0) (Q : B → Type 0) → ((x : A) → P x → Q (f x)) → (a : List A) → All P a → All Q (map f a)
+all-map f P Q g [] h = tt
+all-map f P Q g (x ∷ a) h = (g x (h .0), all-map f P Q g a (h .1))
+
+-- Two functions that undo one another on each element undo one another on the list.
+pub map-undone : {A B : Type 0} (f : A → B) (g : B → A) (P : A → Type 0) → ((x : A) → P x → g (f x) ≡ x)
+    → (a : List A) → All P a → map g (map f a) ≡ a
+map-undone f g P e [] h = refl
+map-undone f g P e (x ∷ a) h = λ i. e x (h .0) i ∷ map-undone f g P e a (h .1) i
