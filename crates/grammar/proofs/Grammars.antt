@@ -1,0 +1,106 @@
+-- The bodies: a strict body is a standard body, a standard body is a lax body, and no body holds a hyphen. Assumes nothing.
+use mathlib.Core.Path.{_≡_, refl, sym, _∙_, subst, ap}
+use mathlib.Core.Logic.{_≢_, _⊎_, inl, inr}
+use mathlib.Core.List.{List, [], _∷_, _++_, append-assoc, append-nil}
+use Prim.Native.Nat.{ℕ, zero, suc, _≤_, _<_}
+use native.Mathlib.Omega.{arith}
+use lib.ListN.{length, replicate}
+use Rattle.base64.specs.Lists.{All}
+use Rattle.base64.specs.Alphabet.{AlphabetChar, pad}
+use Rattle.base64.proofs.Lists.{all-append, all-imp}
+use Rattle.grammar.specs.Marks.{Blank, White, LineEnd}
+use Rattle.grammar.specs.Grammars.{Mixed, LaxPads, LaxBody, FinalLine, StandardLines, BlankLines, StandardBody, StandardAfter, Groups, StrictLines, StrictBody}
+use Rattle.grammar.proofs.Marks.{NoHyphen, white-no-hyphen, alphabet-no-hyphen, pad-no-hyphen, blanks-white, end-white}
+
+-- ---- no hyphen in a lax body
+
+whites-no-hyphen : (w : List ℕ) → All White w → All NoHyphen w
+whites-no-hyphen w h = all-imp White NoHyphen white-no-hyphen w h
+
+mixed-no-hyphen : (c : ℕ) → Mixed c → NoHyphen c
+mixed-no-hyphen c (inl h) = white-no-hyphen c h
+mixed-no-hyphen c (inr h) = alphabet-no-hyphen c h
+
+pads-no-hyphen : {p : List ℕ} → LaxPads p → All NoHyphen p
+pads-no-hyphen LaxPads.none = tt
+pads-no-hyphen (LaxPads.one w h) = (pad-no-hyphen, whites-no-hyphen w h)
+pads-no-hyphen (LaxPads.two v w h k) =
+    (pad-no-hyphen, all-append NoHyphen v (pad ∷ w) (whites-no-hyphen v h) (pad-no-hyphen, whites-no-hyphen w k))
+
+pub lax-body-no-hyphen : {b : List ℕ} → LaxBody b → All NoHyphen b
+lax-body-no-hyphen (LaxBody.lax m p hm hp) =
+    all-append NoHyphen m p (all-imp Mixed NoHyphen mixed-no-hyphen m hm) (pads-no-hyphen hp)
+
+-- ---- standard to lax
+
+whites-mixed : (w : List ℕ) → All White w → All Mixed w
+whites-mixed w h = all-imp White Mixed (λ c k. inl k) w h
+
+alphabet-mixed : (a : List ℕ) → All AlphabetChar a → All Mixed a
+alphabet-mixed a h = all-imp AlphabetChar Mixed (λ c k. inr k) a h
+
+-- A mixture in front of a lax body is a lax body.
+mixed-then : (m : List ℕ) {b : List ℕ} → All Mixed m → LaxBody b → LaxBody (m ++ b)
+mixed-then m h (LaxBody.lax n p hn hp) = subst LaxBody (append-assoc m n p) (LaxBody.lax (m ++ n) p (all-append Mixed m n h hn) hp)
+
+white-then : (w : List ℕ) {b : List ℕ} → All White w → LaxBody b → LaxBody (w ++ b)
+white-then w h b = mixed-then w (whites-mixed w h) b
+
+blanks-end-white : (b : List ℕ) {e rest : List ℕ} → All Blank b → LineEnd e rest → All White (b ++ e)
+blanks-end-white b {e} hb he = all-append White b e (blanks-white b hb) (end-white he)
+
+-- Up to two pads, white behind them.
+pads-lax : (p : ℕ) (w : List ℕ) → p ≤ 2 → All White w → LaxBody (replicate p pad ++ w)
+pads-lax zero w hp hw = subst LaxBody (append-nil w) (LaxBody.lax w [] (whites-mixed w hw) LaxPads.none)
+pads-lax (suc zero) w hp hw = LaxBody.lax [] (pad ∷ w) tt (LaxPads.one w hw)
+pads-lax (suc (suc zero)) w hp hw = LaxBody.lax [] (pad ∷ pad ∷ w) tt (LaxPads.two [] w tt hw)
+pads-lax (suc (suc (suc p))) w hp hw = absurd (omega arith)
+
+final-line-lax : {f : List ℕ} → FinalLine f → LaxBody f
+final-line-lax (FinalLine.final a p b e ha hp hb he) =
+    mixed-then a (alphabet-mixed a ha) (pads-lax p (b ++ e) hp (blanks-end-white b hb he))
+
+lines-lax : {l : List ℕ} → StandardLines l → LaxBody l
+lines-lax (StandardLines.final f) = final-line-lax f
+lines-lax (StandardLines.line a b e rest some ha hb he l) =
+    mixed-then a (alphabet-mixed a ha) (white-then b (blanks-white b hb) (white-then e (end-white he) (lines-lax l)))
+
+blank-lines-lax : {l : List ℕ} → BlankLines l → LaxBody l
+blank-lines-lax (BlankLines.lines l) = lines-lax l
+blank-lines-lax (BlankLines.blank {c = c} h l) = white-then (c ∷ []) (inl h, tt) (blank-lines-lax l)
+blank-lines-lax (BlankLines.line-end e rest he l) = white-then e (end-white he) (blank-lines-lax l)
+
+pub standard-body-lax : {b : List ℕ} → StandardBody b → LaxBody b
+standard-body-lax (StandardBody.standard b e rest hb he l) =
+    white-then b (blanks-white b hb) (white-then e (end-white he) (blank-lines-lax l))
+
+pub standard-after-white : {a : List ℕ} → StandardAfter a → All White a
+standard-after-white (StandardAfter.no-end {b = b} h) = blanks-white b h
+standard-after-white (StandardAfter.one-end b e hb he) = blanks-end-white b hb he
+
+-- ---- strict to standard
+
+alphabet-then : (a : List ℕ) {f : List ℕ} → All AlphabetChar a → FinalLine f → FinalLine (a ++ f)
+alphabet-then a h (FinalLine.final n p b e hn hp hb he) =
+    subst FinalLine (append-assoc a n (replicate p pad ++ (b ++ e)))
+    (FinalLine.final (a ++ n) p b e (all-append AlphabetChar a n h hn) hp hb he)
+
+groups-final-line : {n : ℕ} {g : List ℕ} (e : List ℕ) → Groups n g → LineEnd e [] → FinalLine (g ++ e)
+groups-final-line e (Groups.four {a} {b} {c} {d} ha hb hc hd) he =
+    FinalLine.final (a ∷ b ∷ c ∷ d ∷ []) 0 [] e (ha, (hb, (hc, (hd, tt)))) (omega arith) tt he
+groups-final-line e (Groups.three {a} {b} {c} ha hb hc) he =
+    FinalLine.final (a ∷ b ∷ c ∷ []) 1 [] e (ha, (hb, (hc, tt))) (omega arith) tt he
+groups-final-line e (Groups.two {a} {b} ha hb) he = FinalLine.final (a ∷ b ∷ []) 2 [] e (ha, (hb, tt)) (omega arith) tt he
+groups-final-line e (Groups.more {a} {b} {c} {d} ha hb hc hd g) he =
+    alphabet-then (a ∷ b ∷ c ∷ d ∷ []) (ha, (hb, (hc, (hd, tt)))) (groups-final-line e g he)
+
+full-line-some : (a : List ℕ) → length a ≡ 64 → a ≢ []
+full-line-some a h e = let k : length a ≡ 0 = ap length e in omega arith
+
+lines-standard : {l : List ℕ} → StrictLines l → StandardLines l
+lines-standard (StrictLines.final n g e hg hn he) = StandardLines.final (groups-final-line e hg he)
+lines-standard (StrictLines.line a e rest ha full he l) =
+    StandardLines.line a [] e rest (full-line-some a full) ha tt he (lines-standard l)
+
+pub strict-body-standard : {b : List ℕ} → StrictBody b → StandardBody b
+strict-body-standard (StrictBody.strict e rest he l) = StandardBody.standard [] e rest tt he (BlankLines.lines (lines-standard l))

@@ -1,0 +1,7 @@
+-- Facts about the files of specs/, under the same names. Assumes nothing.
+pub mod Runs
+pub mod Marks
+pub mod Grammars
+pub mod Message
+pub mod Bundle
+pub mod Samples

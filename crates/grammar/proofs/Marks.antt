@@ -1,0 +1,84 @@
+-- The marks: no white and no alphabet character is a hyphen, line ends are white, and a label before two hyphens is cut in
+-- one way only. Assumes nothing.
+use mathlib.Core.Path.{_≡_, refl, sym, _∙_, subst, ap}
+use mathlib.Core.Logic.{_≢_, _⊎_, inl, inr}
+use mathlib.Core.List.{List, [], _∷_, _++_, head-eq-of-cons-eq, tail-eq-of-cons-eq}
+use Prim.Native.Nat.{ℕ, _≤_, _<_}
+use native.Mathlib.Omega.{arith}
+use Rattle.base64.specs.Lists.{All}
+use Rattle.base64.specs.Alphabet.{AlphabetChar, alphabet, placeIn, valueOf, pad}
+use Rattle.base64.proofs.Lists.{all-append, all-imp}
+use Rattle.grammar.specs.Marks.{hyphen, SP, Blank, White, LineEnd, crlf, cr, lf, LabelChar, Separator, LabelChars, last, next, separated, Label, empty, chars}
+
+-- ---- hyphens
+
+abbrev pub NoHyphen : ℕ → Type 0
+NoHyphen c = c ≢ hyphen
+
+pub white-no-hyphen : (c : ℕ) → White c → NoHyphen c
+white-no-hyphen c (inl (inl h)) e = omega arith
+white-no-hyphen c (inl (inr h)) e = omega arith
+white-no-hyphen c (inr (inl h)) e = omega arith
+white-no-hyphen c (inr (inr (inl h))) e = omega arith
+white-no-hyphen c (inr (inr (inr (inl h)))) e = omega arith
+white-no-hyphen c (inr (inr (inr (inr h)))) e = omega arith
+
+hyphen-outside : valueOf hyphen ≡ 64
+unfolding valueOf placeIn alphabet
+hyphen-outside = refl
+
+pub alphabet-no-hyphen : (c : ℕ) → AlphabetChar c → NoHyphen c
+alphabet-no-hyphen c h e = let k : valueOf c ≡ 64 = ap valueOf e ∙ hyphen-outside in omega arith
+
+pub pad-no-hyphen : NoHyphen pad
+pad-no-hyphen e = omega arith
+
+-- ---- white
+
+pub blanks-white : (b : List ℕ) → All Blank b → All White b
+blanks-white b h = all-imp Blank White (λ c k. inl k) b h
+
+pub end-white : {e rest : List ℕ} → LineEnd e rest → All White e
+end-white crlf = (inr (inl refl), (inr (inr (inl refl)), tt))
+end-white (cr h) = (inr (inl refl), tt)
+end-white lf = (inr (inr (inl refl)), tt)
+
+-- ---- labels
+
+chars-head : {l : List ℕ} → LabelChars l → (z : List ℕ) {c : ℕ} {y : List ℕ} → l ++ z ≡ c ∷ y → LabelChar c
+chars-head (last h) z e = subst LabelChar (head-eq-of-cons-eq e) h
+chars-head (next h w) z e = subst LabelChar (head-eq-of-cons-eq e) h
+chars-head (separated h s w) z e = subst LabelChar (head-eq-of-cons-eq e) h
+
+pub no-separator : {c : ℕ} → LabelChar c → Separator c → ⊥
+no-separator (inl h) (inl e) = omega arith
+no-separator (inl h) (inr e) = omega arith
+no-separator (inr h) (inl e) = omega arith
+no-separator (inr h) (inr e) = omega arith
+
+-- Two hyphens end a label: the first could be a separator, but then a label character stands behind it.
+chars-no-hyphen : {l : List ℕ} → LabelChars l → (z y : List ℕ) → l ++ z ≡ hyphen ∷ y → ⊥
+chars-no-hyphen w z y e = no-separator (chars-head w z e) (inl refl)
+
+chars-unique : {l m : List ℕ} → LabelChars l → LabelChars m → (x y : List ℕ)
+    → l ++ (hyphen ∷ hyphen ∷ x) ≡ m ++ (hyphen ∷ hyphen ∷ y) → (l ≡ m) × (x ≡ y)
+chars-unique (last h) (last k) x y e = (cc, cc)
+chars-unique (last h) (next k v) x y e = absurd (chars-no-hyphen v _ _ (sym (tail-eq-of-cons-eq e)))
+chars-unique (last h) (separated k s v) x y e = absurd (chars-no-hyphen v _ _ (sym (tail-eq-of-cons-eq (tail-eq-of-cons-eq e))))
+chars-unique (next h w) (last k) x y e = absurd (chars-no-hyphen w _ _ (tail-eq-of-cons-eq e))
+chars-unique (next h w) (next k v) x y e =
+    let rest = chars-unique w v x y (tail-eq-of-cons-eq e) in
+    (λ i. head-eq-of-cons-eq e i ∷ rest .0 i, rest .1)
+chars-unique (next h w) (separated k s v) x y e = absurd (no-separator (chars-head w _ (tail-eq-of-cons-eq e)) s)
+chars-unique (separated h s w) (last k) x y e = absurd (chars-no-hyphen w _ _ (tail-eq-of-cons-eq (tail-eq-of-cons-eq e)))
+chars-unique (separated h s w) (next k v) x y e = absurd (no-separator (chars-head v _ (sym (tail-eq-of-cons-eq e))) s)
+chars-unique (separated h s w) (separated k t v) x y e =
+    let rest = chars-unique w v x y (tail-eq-of-cons-eq (tail-eq-of-cons-eq e)) in
+    (λ i. head-eq-of-cons-eq e i ∷ head-eq-of-cons-eq (tail-eq-of-cons-eq e) i ∷ rest .0 i, rest .1)
+
+pub label-unique : {l m : List ℕ} → Label l → Label m → (x y : List ℕ)
+    → l ++ (hyphen ∷ hyphen ∷ x) ≡ m ++ (hyphen ∷ hyphen ∷ y) → (l ≡ m) × (x ≡ y)
+label-unique empty empty x y e = (refl, tail-eq-of-cons-eq (tail-eq-of-cons-eq e))
+label-unique empty (chars v) x y e = absurd (chars-no-hyphen v _ _ (sym e))
+label-unique (chars w) empty x y e = absurd (chars-no-hyphen w _ _ e)
+label-unique (chars w) (chars v) x y e = chars-unique w v x y e

@@ -1,0 +1,5 @@
+-- The grammars of RFC 7468 text, in the order of the requirements. Assumes nothing.
+pub mod Marks
+pub mod Grammars
+pub mod Message
+pub mod Bundle

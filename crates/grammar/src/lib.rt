@@ -1,0 +1,67 @@
+// The three grammars of RFC 7468 text. Their meaning stands in specs/, as relations on the parts of a text; the theorems
+// about them stand in proofs/.
+ghost use mathlib.Core.Path.{_≡_};
+ghost use Prim.Native.Nat.{ℕ, _+_, _^_, _<_};
+ghost use lib.ListN.{length};
+ghost use Rattle.grammar.specs.Marks.{begin, end};
+ghost use Rattle.grammar.specs.Grammars.{grammarOf};
+
+// A grammar.
+pub enum Grammar {
+    Lax,
+    Standard,
+    Strict,
+}
+
+// The grammar that a caller's number asks for.
+pub enum Numbered {
+    Known(Grammar),
+    Unknown,
+}
+
+impl Grammar {
+    // The numbers that callers use.
+    pub const LAX: u32 = 1;
+
+    pub const STANDARD: u32 = 2;
+
+    pub const STRICT: u32 = 3;
+
+    // Any number may come in.
+    pub fn from_number(number: u32) -> Numbered
+        ensures { λ r. ⌜ r ≡ grammarOf number ⌝ }
+    {
+        match number {
+            Self::LAX => Numbered::Known(Grammar::Lax),
+            Self::STANDARD => Numbered::Known(Grammar::Standard),
+            Self::STRICT => Numbered::Known(Grammar::Strict),
+            _ => Numbered::Unknown,
+        }
+    }
+}
+
+// An offset in a text: the number of bytes before it. It is no count of decoded bytes (`base64::ByteCount`).
+pub struct TextOffset(pub usize);
+
+// The bytes of the boundaries before their labels.
+pub const BEGIN: [u8; 11] = *b"-----BEGIN ";
+
+pub const END: [u8; 9] = *b"-----END ";
+
+impl TextOffset {
+    // Where the label starts of the opening boundary that starts here.
+    pub fn opening_label(self) -> TextOffset
+        requires { ⌜ self .0 + length begin < 2 ^ 64 ⌝ }
+        ensures { λ r. ⌜ r .0 ≡ self .0 + length begin ⌝ }
+    {
+        TextOffset(self.0 + BEGIN.len())
+    }
+
+    // Where the label starts of the closing boundary that starts here.
+    pub fn closing_label(self) -> TextOffset
+        requires { ⌜ self .0 + length end < 2 ^ 64 ⌝ }
+        ensures { λ r. ⌜ r .0 ≡ self .0 + length end ⌝ }
+    {
+        TextOffset(self.0 + END.len())
+    }
+}
