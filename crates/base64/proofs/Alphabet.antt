@@ -1,13 +1,12 @@
 -- The alphabet: the character of a value has that value, and no other byte has it. Assumes nothing.
 use mathlib.Core.Path.{_≡_, refl, sym, ap, _∙_}
-use mathlib.Core.Logic.{_≢_}
 use mathlib.Core.Bool.{Bool, true, false, cond}
 use mathlib.Core.List.{List, [], _∷_}
-use Prim.Native.Nat.{ℕ, zero, suc, _+_, _-_, _≤_, _<_}
+use Prim.Native.Nat.{ℕ, suc, _+_, _-_, _≤_, _<_}
 use native.Mathlib.Omega.{arith}
-use lib.Dec.{T, eqb, eqb→eq, ltb}
+use lib.Dec.{T, eqb, eqb→eq}
 use lib.ListN.{length, getD}
-use borrow.Author.Tests.{eqb-true, eqb-false, lt-ltb, le-ltb}
+use borrow.Author.Tests.{eqb-true, lt-ltb}
 use Rattle.base64.specs.Alphabet.{Sextet, AlphabetChar, alphabet, charOf, placeIn, valueOf, pad, answerOf}
 use Rattle.base64.specs.declared.Value.the-variants.{Of, Outside}
 use Rattle.base64.proofs.Tests.{run, below-at, run-at}

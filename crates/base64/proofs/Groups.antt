@@ -1,8 +1,8 @@
 -- Bytes, values and characters, there and back. Assumes nothing.
-use mathlib.Core.Path.{_≡_, refl, sym, _∙_, ap, ap₂}
-use mathlib.Core.Logic.{_≢_, _⊎_, inl, inr}
+use mathlib.Core.Path.{_≡_, refl, _∙_, ap}
+use mathlib.Core.Logic.{inl, inr}
 use mathlib.Core.List.{List, [], _∷_, _++_, map}
-use Prim.Native.Nat.{ℕ, zero, suc, _+_, _*_, _/_, _%_, _≤_, _<_}
+use Prim.Native.Nat.{ℕ, suc, _+_, _*_, _/_, _%_, _≤_}
 use native.Mathlib.Omega.{arith}
 use lib.ListN.{length, replicate, length-append, length-map, length-replicate}
 use Rattle.base64.specs.Lists.{All}
@@ -14,14 +14,12 @@ use Rattle.base64.proofs.Alphabet.{value-char, char-value}
 -- ---- kinds and counts
 
 pub values-sextets : (d : List ℕ) → All Octet d → All Sextet (toValues d)
-unfolding toValues
 values-sextets [] h = tt
 values-sextets (x ∷ []) h = (omega arith, (omega arith, tt))
 values-sextets (x ∷ y ∷ []) h = (omega arith, (omega arith, (omega arith, tt)))
 values-sextets (x ∷ y ∷ z ∷ r) h = (omega arith, (omega arith, (omega arith, (omega arith, values-sextets r (h .1 .1 .1)))))
 
 pub bytes-octets : (v : List ℕ) → All Sextet v → All Octet (toBytes v)
-unfolding toBytes
 bytes-octets [] h = tt
 bytes-octets (a ∷ []) h = tt
 bytes-octets (a ∷ b ∷ []) h = (omega arith, tt)
@@ -30,7 +28,6 @@ bytes-octets (a ∷ b ∷ c ∷ d ∷ r) h = (omega arith, (omega arith, (omega 
 
 -- What is encoded has no spare bits, and its counts fit.
 pub values-spare : (d : List ℕ) → spareBits (toValues d) ≡ 0
-unfolding toValues spareBits
 values-spare [] = refl
 values-spare (x ∷ []) = omega arith
 values-spare (x ∷ y ∷ []) = omega arith
@@ -53,7 +50,6 @@ counts-pads n p (inr (inl h)) = omega arith
 counts-pads n p (inr (inr h)) = omega arith
 
 pub values-counts : (d : List ℕ) → CountsFit (length (toValues d)) (padsFor d)
-unfolding toValues padsFor
 values-counts [] = inl (refl, refl)
 values-counts (x ∷ []) = inr (inl (refl, refl))
 values-counts (x ∷ y ∷ []) = inr (inr (refl, refl))
@@ -71,7 +67,6 @@ byte3-back : (y z : ℕ) → Octet z → byte3 (value3 y z) (value4 z) ≡ z
 byte3-back y z h = omega arith
 
 pub bytes-values : (d : List ℕ) → All Octet d → toBytes (toValues d) ≡ d
-unfolding toValues toBytes
 bytes-values [] h = refl
 bytes-values (x ∷ []) h = λ i. byte1-back x 0 (omega arith) i ∷ []
 bytes-values (x ∷ y ∷ []) h = λ i. byte1-back x y (h .1 .0) i ∷ byte2-back x y 0 (h .1 .0) (omega arith) i ∷ []
@@ -98,7 +93,6 @@ value4-back c d h = omega arith
 -- The counts also say how many pads the bytes have.
 pub values-bytes : (v : List ℕ) (p : ℕ) → All Sextet v → CountsFit (length v) p → spareBits v ≡ 0
     → (toValues (toBytes v) ≡ v) × (padsFor (toBytes v) ≡ p)
-unfolding toValues toBytes padsFor spareBits
 values-bytes [] p h f s = (refl, omega (arith, counts-pads 0 p f))
 values-bytes (a ∷ []) p h f s = absurd (omega (arith, counts-pads 1 p f))
 values-bytes (a ∷ b ∷ []) p h f s =
@@ -124,7 +118,6 @@ encode-decode cs p h f s =
 -- ---- lengths
 
 length-values : (d : List ℕ) → length (toValues d) + padsFor d ≡ 4 * ((length d + 2) / 3)
-unfolding toValues padsFor
 length-values [] = omega arith
 length-values (x ∷ []) = omega arith
 length-values (x ∷ y ∷ []) = omega arith
@@ -136,7 +129,6 @@ pub length-encode : (d : List ℕ) → length (encode d) ≡ 4 * ((length d + 2)
 length-encode d = simp (length-append, length-map, length-replicate) (length-values d)
 
 length-bytes : (v : List ℕ) → length (toBytes v) ≡ length v * 3 / 4
-unfolding toBytes
 length-bytes [] = omega arith
 length-bytes (a ∷ []) = omega arith
 length-bytes (a ∷ b ∷ []) = omega arith

@@ -1,15 +1,19 @@
 -- RFC 4648, section 4, table 1: the alphabet of base 64. Assumes nothing.
 use mathlib.Core.Bool.{cond}
 use mathlib.Core.List.{List, [], _∷_}
-use Prim.Native.Nat.{ℕ, zero, suc, _<_}
+use Prim.Native.Nat.{ℕ, suc, _<_}
 use lib.Dec.{eqb, ltb}
 use lib.ListN.{getD}
 use Rattle.base64.specs.declared.Value.{Value}
 use Rattle.base64.specs.declared.Value.the-variants.{Of, Outside}
 
+-- How many values there are.
+abbrev pub radix : ℕ
+radix = 64
+
 -- A value: six bits.
 abbrev pub Sextet : ℕ → Type 0
-Sextet v = v < 64
+Sextet v = v < radix
 
 -- A byte: eight bits.
 abbrev pub Octet : ℕ → Type 0
@@ -38,7 +42,7 @@ unfoldable pub placeIn : List ℕ → ℕ → ℕ
 placeIn [] c = 0
 placeIn (x ∷ xs) c = cond (eqb x c) 0 (suc (placeIn xs c))
 
--- The value of a character: its place in the alphabet, so 64 for any byte outside.
+-- The value of a character: its place in the alphabet, so the radix for any byte outside.
 unfoldable pub valueOf : ℕ → ℕ
 valueOf c = placeIn alphabet c
 
@@ -48,4 +52,4 @@ AlphabetChar c = Sextet (valueOf c)
 
 -- A byte's value as the code answers it.
 abbrev pub answerOf : ℕ → Value
-answerOf c = cond (ltb (valueOf c) 64) (Of (valueOf c)) Outside
+answerOf c = cond (ltb (valueOf c) radix) (Of (valueOf c)) Outside

@@ -21,14 +21,14 @@ abbrev pub value4 : ℕ → ℕ
 value4 z = z % 64
 
 -- The values of bytes.
-unfoldable pub toValues : List ℕ → List ℕ
+abbrev pub toValues : List ℕ → List ℕ
 toValues [] = []
 toValues (x ∷ []) = value1 x ∷ value2 x 0 ∷ []
 toValues (x ∷ y ∷ []) = value1 x ∷ value2 x y ∷ value3 y 0 ∷ []
 toValues (x ∷ y ∷ z ∷ r) = value1 x ∷ value2 x y ∷ value3 y z ∷ value4 z ∷ toValues r
 
 -- The number of pads behind the values of bytes.
-unfoldable pub padsFor : List ℕ → ℕ
+abbrev pub padsFor : List ℕ → ℕ
 padsFor [] = 0
 padsFor (x ∷ []) = 2
 padsFor (x ∷ y ∷ []) = 1
@@ -45,7 +45,7 @@ abbrev pub byte3 : ℕ → ℕ → ℕ
 byte3 c d = c % 4 * 64 + d
 
 -- The bytes of values. A single value left over has no byte.
-unfoldable pub toBytes : List ℕ → List ℕ
+abbrev pub toBytes : List ℕ → List ℕ
 toBytes [] = []
 toBytes (a ∷ []) = []
 toBytes (a ∷ b ∷ []) = byte1 a b ∷ []
@@ -53,7 +53,7 @@ toBytes (a ∷ b ∷ c ∷ []) = byte1 a b ∷ byte2 b c ∷ []
 toBytes (a ∷ b ∷ c ∷ d ∷ r) = byte1 a b ∷ byte2 b c ∷ byte3 c d ∷ toBytes r
 
 -- The bits of the last value that belong to no byte, as a number: four of them behind one byte, two behind two.
-unfoldable pub spareBits : List ℕ → ℕ
+abbrev pub spareBits : List ℕ → ℕ
 spareBits [] = 0
 spareBits (a ∷ []) = 0
 spareBits (a ∷ b ∷ []) = b % 16

@@ -1,18 +1,18 @@
 -- Bundles: a narrower grammar's bundle is a wider grammar's bundle with the same list and table, and a text has one list
 -- and one table only, whatever grammars read it. No limit enters. Assumes nothing.
-use mathlib.Core.Path.{_≡_, refl, sym, _∙_, subst, ap}
+use mathlib.Core.Path.{_≡_, refl, sym, _∙_, ap}
 use mathlib.Core.List.{List, [], _∷_, _++_, map, nil≢cons}
 use Prim.Native.Nat.{ℕ}
 use Rattle.base64.specs.Lists.{All}
 use Rattle.base64.proofs.Lists.{all-imp}
 use Rattle.grammar.specs.Marks.{hyphen, White}
-use Rattle.grammar.specs.Message.{Reading, textOf, Shape, Consistent}
+use Rattle.grammar.specs.Message.{Reading, textOf, Consistent}
 use Rattle.grammar.specs.Bundle.{joinedText, Later, Shapes, Item, itemOf, tableOf, Bundle}
 use Rattle.grammar.specs.declared.Grammar.{Grammar}
 use Rattle.grammar.specs.declared.Grammar.the-variants.{Lax, Standard, Strict}
 use Rattle.grammar.proofs.Runs.{Stop}
 use Rattle.grammar.proofs.Marks.{white-no-hyphen}
-use Rattle.grammar.proofs.Message.{Wider, shape-widens, consistent-widens, text-then, reading-then-unique}
+use Rattle.grammar.proofs.Message.{Wider, strict-standard, standard-lax, shape-widens, consistent-widens, text-then, reading-then-unique}
 
 -- ---- widening
 
@@ -33,6 +33,12 @@ bundle-widens {g} {h} w b = record {
   hasTable = b .hasTable;
 }
 
+-- Strict is the narrowest.
+pub strict-bundle : (g : Grammar) {t : List ℕ} {list : List Item} {table : List ℕ} → Bundle Strict t list table → Bundle g t list table
+strict-bundle Lax b = bundle-widens standard-lax (bundle-widens strict-standard b)
+strict-bundle Standard b = bundle-widens strict-standard b
+strict-bundle Strict b = b
+
 -- ---- uniqueness
 
 -- Behind a message stands nothing, or a hyphen.
@@ -41,7 +47,7 @@ later-stop g [] h = tt
 later-stop g (r ∷ rs) h = rw (h .0 .noneBefore) (λ w. white-no-hyphen hyphen w refl)
 
 -- A message is not empty.
-text-some : (r : Reading) (x : List ℕ) → [] ≡ textOf r ++ x → ⊥
+pub text-some : (r : Reading) (x : List ℕ) → [] ≡ textOf r ++ x → ⊥
 text-some r x e = go (r .before) _ (e ∙ text-then r x)
   where
     go : (b z : List ℕ) → [] ≡ b ++ (hyphen ∷ z) → ⊥

@@ -1,16 +1,16 @@
 -- The bodies: a strict body is a standard body, a standard body is a lax body, and no body holds a hyphen. Assumes nothing.
-use mathlib.Core.Path.{_≡_, refl, sym, _∙_, subst, ap}
-use mathlib.Core.Logic.{_≢_, _⊎_, inl, inr}
-use mathlib.Core.List.{List, [], _∷_, _++_, append-assoc, append-nil}
-use Prim.Native.Nat.{ℕ, zero, suc, _≤_, _<_}
+use mathlib.Core.Path.{_≡_, sym, _∙_, subst, ap}
+use mathlib.Core.Logic.{_≢_, inl, inr}
+use mathlib.Core.List.{List, [], _∷_, _++_, append-assoc, append-nil, head-eq-of-cons-eq, tail-eq-of-cons-eq, cons≢nil}
+use Prim.Native.Nat.{ℕ, zero, suc, _≤_}
 use native.Mathlib.Omega.{arith}
 use lib.ListN.{length, replicate}
 use Rattle.base64.specs.Lists.{All}
 use Rattle.base64.specs.Alphabet.{AlphabetChar, pad}
 use Rattle.base64.proofs.Lists.{all-append, all-imp}
-use Rattle.grammar.specs.Marks.{Blank, White, LineEnd}
+use Rattle.grammar.specs.Marks.{Blank, White, LineEnd, crlf, cr, lf}
 use Rattle.grammar.specs.Grammars.{Mixed, LaxPads, LaxBody, FinalLine, StandardLines, BlankLines, StandardBody, StandardAfter, Groups, StrictLines, StrictBody}
-use Rattle.grammar.proofs.Marks.{NoHyphen, white-no-hyphen, alphabet-no-hyphen, pad-no-hyphen, blanks-white, end-white}
+use Rattle.grammar.proofs.Marks.{NoHyphen, white-no-hyphen, alphabet-no-hyphen, pad-no-hyphen, blanks-white, end-white, end-some, end-head, blank-no-end}
 
 -- ---- no hyphen in a lax body
 
@@ -104,3 +104,53 @@ lines-standard (StrictLines.line a e rest ha full he l) =
 
 pub strict-body-standard : {b : List ℕ} → StrictBody b → StandardBody b
 strict-body-standard (StrictBody.strict e rest he l) = StandardBody.standard [] e rest tt he (BlankLines.lines (lines-standard l))
+
+-- ---- the CRLF rule: a standard body is more than one line end
+
+append-none : (a b : List ℕ) → a ++ b ≡ [] → b ≡ []
+append-none [] b e = e
+append-none (x ∷ a) b e = absurd (cons≢nil e)
+
+lines-some : {l : List ℕ} → StandardLines l → l ≢ []
+lines-some (StandardLines.final (FinalLine.final a p b e ha hp hb he)) z =
+    end-some he [] (append-nil e ∙ append-none b e (append-none (replicate p pad) (b ++ e) (append-none a (replicate p pad ++ (b ++ e)) z)))
+lines-some (StandardLines.line a b e rest some ha hb he l) z = end-some he rest (append-none b (e ++ rest) (append-none a (b ++ (e ++ rest)) z))
+
+blank-lines-some : {l : List ℕ} → BlankLines l → l ≢ []
+blank-lines-some (BlankLines.lines l) z = lines-some l z
+blank-lines-some (BlankLines.blank h l) z = cons≢nil z
+blank-lines-some (BlankLines.line-end e rest he l) z = end-some he rest z
+
+-- The line end of the opening takes the whole of it. For CRLF it is the rule that CR alone, with LF behind it, is none.
+ends-once : {d e rest : List ℕ} → LineEnd d rest → BlankLines rest → LineEnd e [] → d ++ rest ≡ e → ⊥
+ends-once crlf l crlf z = blank-lines-some l (tail-eq-of-cons-eq (tail-eq-of-cons-eq z))
+ends-once crlf l (cr h) z = cons≢nil (tail-eq-of-cons-eq z)
+ends-once crlf l lf z = cons≢nil (tail-eq-of-cons-eq z)
+ends-once (cr h) l crlf z = h [] (tail-eq-of-cons-eq z)
+ends-once (cr h) l (cr k) z = blank-lines-some l (tail-eq-of-cons-eq z)
+ends-once (cr h) l lf z = blank-lines-some l (tail-eq-of-cons-eq z)
+ends-once lf l crlf z = let k : _≡_ {A = ℕ} 10 13 = head-eq-of-cons-eq z in omega arith
+ends-once lf l (cr k) z = blank-lines-some l (tail-eq-of-cons-eq z)
+ends-once lf l lf z = blank-lines-some l (tail-eq-of-cons-eq z)
+
+pub one-end-no-body : {b e : List ℕ} → StandardBody b → LineEnd e [] → b ≡ e → ⊥
+one-end-no-body (StandardBody.standard [] e rest hb he l) h z = ends-once he l h z
+one-end-no-body {e = e} (StandardBody.standard (c ∷ b) d rest hb he l) h z = blank-no-end (hb .0) (end-head h [] (append-nil e ∙ sym z))
+
+-- ---- a strict body has an alphabet character behind its first line end
+
+groups-head : {n : ℕ} {g : List ℕ} → Groups n g → (x : List ℕ) {c : ℕ} {y : List ℕ} → g ++ x ≡ c ∷ y → AlphabetChar c
+groups-head (Groups.four h hb hc hd) x e = subst AlphabetChar (head-eq-of-cons-eq e) h
+groups-head (Groups.three h hb hc) x e = subst AlphabetChar (head-eq-of-cons-eq e) h
+groups-head (Groups.two h hb) x e = subst AlphabetChar (head-eq-of-cons-eq e) h
+groups-head (Groups.more h hb hc hd g) x e = subst AlphabetChar (head-eq-of-cons-eq e) h
+
+strict-lines-head : {l : List ℕ} → StrictLines l → {c : ℕ} {y : List ℕ} → l ≡ c ∷ y → AlphabetChar c
+strict-lines-head (StrictLines.final n g e hg hn he) z = groups-head hg e z
+strict-lines-head (StrictLines.line [] e rest ha full he l) z = absurd (omega arith)
+strict-lines-head (StrictLines.line (a ∷ r) e rest ha full he l) z = subst AlphabetChar (head-eq-of-cons-eq z) (ha .0)
+
+pub strict-body-head : {b : List ℕ} → StrictBody b → {c : ℕ} {y : List ℕ} → b ≡ 10 ∷ c ∷ y → AlphabetChar c
+strict-body-head (StrictBody.strict e rest crlf l) z = let k : _≡_ {A = ℕ} 13 10 = head-eq-of-cons-eq z in absurd (omega arith)
+strict-body-head (StrictBody.strict e rest (cr h) l) z = let k : _≡_ {A = ℕ} 13 10 = head-eq-of-cons-eq z in absurd (omega arith)
+strict-body-head (StrictBody.strict e rest lf l) z = strict-lines-head l (tail-eq-of-cons-eq z)

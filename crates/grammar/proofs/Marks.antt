@@ -2,13 +2,13 @@
 -- one way only. Assumes nothing.
 use mathlib.Core.Path.{_≡_, refl, sym, _∙_, subst, ap}
 use mathlib.Core.Logic.{_≢_, _⊎_, inl, inr}
-use mathlib.Core.List.{List, [], _∷_, _++_, head-eq-of-cons-eq, tail-eq-of-cons-eq}
-use Prim.Native.Nat.{ℕ, _≤_, _<_}
+use mathlib.Core.List.{List, [], _∷_, _++_, head-eq-of-cons-eq, tail-eq-of-cons-eq, cons≢nil}
+use Prim.Native.Nat.{ℕ}
 use native.Mathlib.Omega.{arith}
 use Rattle.base64.specs.Lists.{All}
 use Rattle.base64.specs.Alphabet.{AlphabetChar, alphabet, placeIn, valueOf, pad}
-use Rattle.base64.proofs.Lists.{all-append, all-imp}
-use Rattle.grammar.specs.Marks.{hyphen, SP, Blank, White, LineEnd, crlf, cr, lf, LabelChar, Separator, LabelChars, last, next, separated, Label, empty, chars}
+use Rattle.base64.proofs.Lists.{all-imp}
+use Rattle.grammar.specs.Marks.{CR, LF, hyphen, Blank, White, LineEnd, crlf, cr, lf, LabelChar, Separator, LabelChars, last, next, separated, Label, empty, chars}
 
 -- ---- hyphens
 
@@ -42,6 +42,25 @@ pub end-white : {e rest : List ℕ} → LineEnd e rest → All White e
 end-white crlf = (inr (inl refl), (inr (inr (inl refl)), tt))
 end-white (cr h) = (inr (inl refl), tt)
 end-white lf = (inr (inr (inl refl)), tt)
+
+-- ---- line ends
+
+pub end-some : {e rest : List ℕ} → LineEnd e rest → (x : List ℕ) → e ++ x ≢ []
+end-some crlf x e = cons≢nil e
+end-some (cr h) x e = cons≢nil e
+end-some lf x e = cons≢nil e
+
+-- A line end starts with CR or LF, so with no blank.
+pub end-head : {e rest : List ℕ} → LineEnd e rest → (x : List ℕ) {c : ℕ} {y : List ℕ} → e ++ x ≡ c ∷ y → (c ≡ CR) ⊎ (c ≡ LF)
+end-head crlf x e = inl (sym (head-eq-of-cons-eq e))
+end-head (cr h) x e = inl (sym (head-eq-of-cons-eq e))
+end-head lf x e = inr (sym (head-eq-of-cons-eq e))
+
+pub blank-no-end : {c : ℕ} → Blank c → (c ≡ CR) ⊎ (c ≡ LF) → ⊥
+blank-no-end (inl h) (inl e) = omega arith
+blank-no-end (inl h) (inr e) = omega arith
+blank-no-end (inr h) (inl e) = omega arith
+blank-no-end (inr h) (inr e) = omega arith
 
 -- ---- labels
 

@@ -67,7 +67,7 @@ partsThen r x =
 pub text-then : (r : Reading) (x : List ℕ) → textOf r ++ x ≡ partsThen r x
 text-then r x = simp append-assoc
 
-no-white-hyphen : ¬ White hyphen
+pub no-white-hyphen : ¬ White hyphen
 no-white-hyphen h = white-no-hyphen hyphen h refl
 
 lax-parts-unique : {r s : Reading} → Shape Lax r → Shape Lax s → (x y : List ℕ) → Stop White x → Stop White y

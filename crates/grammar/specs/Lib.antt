@@ -3,3 +3,4 @@ pub mod Marks
 pub mod Grammars
 pub mod Message
 pub mod Bundle
+pub mod Samples

@@ -5,7 +5,7 @@ use mathlib.Core.List.{List, [], _∷_, _++_}
 use Prim.Native.Nat.{ℕ, suc}
 use lib.Dec.{eqb, ltb}
 use lib.ListN.{length}
-use Rattle.base64.specs.Alphabet.{pad, valueOf}
+use Rattle.base64.specs.Alphabet.{radix, pad, valueOf}
 use Rattle.base64.specs.Groups.{CountsFit, valuesOf, spareBits, decode}
 use Rattle.grammar.specs.Marks.{Label, opening, closing}
 use Rattle.grammar.specs.Grammars.{Before, Body, After}
@@ -35,7 +35,7 @@ pub record Shape (g : Grammar) (r : Reading) : Type 0 where
 -- The alphabet characters of a body, in their order.
 unfoldable pub characters : List ℕ → List ℕ
 characters [] = []
-characters (c ∷ l) = cond (ltb (valueOf c) 64) (c ∷ characters l) (characters l)
+characters (c ∷ l) = cond (ltb (valueOf c) radix) (c ∷ characters l) (characters l)
 
 -- The number of pads of a body.
 unfoldable pub padCount : List ℕ → ℕ

@@ -1,3 +1,4 @@
+-- `base64::char_of` meets its contract: the table lent is the alphabet. Assumes nothing.
 use borrow.Author.Needs.{needs}
 use mathlib.Core.Path.{ap}
 use mathlib.Core.List.{List}
@@ -5,14 +6,10 @@ use Prim.Native.Nat.{ℕ}
 use lib.ListN.{getD}
 use Rattle.base64.proofs.char_of.Statement.{statement}
 use Rattle.base64.proofs.char_of.Tie as tie
-use Rattle.base64.proofs.char_of.Reads as reads
-use Rattle.base64.proofs.char_of.Lts as lts
 
--- src/lib.rt:48:5
 element-copy-out-result : tie.Need-element-copy-out-result
 element-copy-out-result c = search needs
 
--- src/lib.rt:44:1
 returns : tie.Need-returns
 returns c = ap (λ (t : List ℕ). getD t (c .before .args .value) 0) (c .before .pre .0)
 

@@ -6,67 +6,52 @@ use Rattle.base64.specs.Alphabet.{alphabet, placeIn, valueOf}
 use Rattle.base64.proofs.Alphabet.{answer-rising, answer-outside}
 use Rattle.base64.proofs.value_of.Statement.{statement}
 use Rattle.base64.proofs.value_of.Tie as tie
-use Rattle.base64.proofs.value_of.Reads as reads
-use Rattle.base64.proofs.value_of.Lts as lts
 
--- src/lib.rt:56:9
 returns : tie.Need-returns
 unfolding valueOf placeIn alphabet
 returns c = answer-outside 0 43 tt (c .before .args .c) (omega arith)
 
--- src/lib.rt:59:9
 returns-2 : tie.Need-returns-2
 unfolding valueOf placeIn alphabet
 returns-2 c = answer-rising 43 1 62 tt (c .before .before .args .c) _ (omega arith)
 
--- src/lib.rt:62:9
 returns-3 : tie.Need-returns-3
 unfolding valueOf placeIn alphabet
 returns-3 c = answer-outside 44 3 tt (c .before .before .before .args .c) (omega arith)
 
--- src/lib.rt:65:9
 returns-4 : tie.Need-returns-4
 unfolding valueOf placeIn alphabet
 returns-4 c = answer-rising 47 1 63 tt (c .before .before .before .before .args .c) _ (omega arith)
 
--- src/lib.rt:68:26
 sub-t3 : tie.Need-sub-t3
 sub-t3 c = search needs
 
--- src/lib.rt:68:26
 add-t4 : tie.Need-add-t4
 add-t4 c = search needs
 
--- src/lib.rt:68:9
 returns-5 : tie.Need-returns-5
 unfolding valueOf placeIn alphabet
 returns-5 c = answer-rising 48 10 52 tt (c .before .before .before .before .before .args .c) _ (omega arith)
 
--- src/lib.rt:71:9
 returns-6 : tie.Need-returns-6
 unfolding valueOf placeIn alphabet
 returns-6 c = answer-outside 58 7 tt (c .before .before .before .before .before .before .args .c) (omega arith)
 
--- src/lib.rt:74:9
 returns-7 : tie.Need-returns-7
 unfolding valueOf placeIn alphabet
 returns-7 c = answer-rising 65 26 0 tt (c .before .before .before .before .before .before .before .args .c) _ (omega arith)
 
--- src/lib.rt:77:9
 returns-8 : tie.Need-returns-8
 unfolding valueOf placeIn alphabet
 returns-8 c = answer-outside 91 6 tt (c .before .before .before .before .before .before .before .before .args .c) (omega arith)
 
--- src/lib.rt:80:26
 add-t7 : tie.Need-add-t7
 add-t7 c = search needs
 
--- src/lib.rt:80:9
 returns-9 : tie.Need-returns-9
 unfolding valueOf placeIn alphabet
 returns-9 c = answer-rising 97 26 26 tt (c .before .before .before .before .before .before .before .before .before .args .c) _ (omega arith)
 
--- src/lib.rt:52:1
 returns-10 : tie.Need-returns-10
 unfolding valueOf placeIn alphabet
 returns-10 c = answer-outside 123 133 tt (c .before .before .before .before .before .before .before .before .before .args .c) (omega arith)
