@@ -1,8 +1,8 @@
 -- The bodies: a strict body is a standard body, a standard body is a lax body, and no body holds a hyphen. Assumes nothing.
-use mathlib.Core.Path.{_≡_, sym, _∙_, subst, ap}
+use mathlib.Core.Path.{_≡_, refl, sym, _∙_, subst, ap}
 use mathlib.Core.Logic.{_≢_, inl, inr}
 use mathlib.Core.List.{List, [], _∷_, _++_, append-assoc, append-nil, head-eq-of-cons-eq, tail-eq-of-cons-eq, cons≢nil}
-use Prim.Native.Nat.{ℕ, zero, suc, _≤_}
+use Prim.Native.Nat.{ℕ, zero, suc, _*_, _≤_, _<_}
 use native.Mathlib.Omega.{arith}
 use lib.ListN.{length, replicate}
 use Rattle.base64.specs.Lists.{All}
@@ -10,7 +10,7 @@ use Rattle.base64.specs.Alphabet.{AlphabetChar, pad}
 use Rattle.base64.proofs.Lists.{all-append, all-imp}
 use Rattle.grammar.specs.Marks.{Blank, White, LineEnd, crlf, cr, lf}
 use Rattle.grammar.specs.Grammars.{Mixed, LaxPads, LaxBody, FinalLine, StandardLines, BlankLines, StandardBody, StandardAfter, Groups, StrictLines, StrictBody}
-use Rattle.grammar.proofs.Marks.{NoHyphen, white-no-hyphen, alphabet-no-hyphen, pad-no-hyphen, blanks-white, end-white, end-some, end-head, blank-no-end}
+use Rattle.grammar.proofs.Marks.{NoHyphen, white-no-hyphen, alphabet-no-hyphen, pad-no-hyphen, blanks-white, end-white, end-some, end-head, end-no-alphabet, blank-no-end}
 
 -- ---- no hyphen in a lax body
 
@@ -154,3 +154,35 @@ pub strict-body-head : {b : List ℕ} → StrictBody b → {c : ℕ} {y : List �
 strict-body-head (StrictBody.strict e rest crlf l) z = let k : _≡_ {A = ℕ} 13 10 = head-eq-of-cons-eq z in absurd (omega arith)
 strict-body-head (StrictBody.strict e rest (cr h) l) z = let k : _≡_ {A = ℕ} 13 10 = head-eq-of-cons-eq z in absurd (omega arith)
 strict-body-head (StrictBody.strict e rest lf l) z = strict-lines-head l (tail-eq-of-cons-eq z)
+
+-- ---- under strict no line is longer than 64 characters
+
+-- What stands behind the shorter of two starts of one list begins inside the longer.
+shorter-start : (P : ℕ → Type 0) (g x a y : List ℕ) → All P a → length g < length a → g ++ x ≡ a ++ y
+    → (c : ℕ) × (z : List ℕ) × P c × (x ≡ c ∷ z)
+shorter-start P g x [] y ha short e = absurd (omega arith)
+shorter-start P [] x (c ∷ a) y ha short e = (c, a ++ y, ha .0, e)
+shorter-start P (d ∷ g) x (c ∷ a) y ha short e = shorter-start P g x a y (ha .1) (omega arith) (tail-eq-of-cons-eq e)
+
+groups-length : {n : ℕ} {g : List ℕ} → Groups n g → length g ≡ 4 * n
+groups-length (Groups.four ha hb hc hd) = refl
+groups-length (Groups.three ha hb hc) = refl
+groups-length (Groups.two ha hb) = refl
+groups-length (Groups.more {n = n} {rest = rest} ha hb hc hd g) = let k : length rest ≡ 4 * n = groups-length g in omega arith
+
+module _ (x a y : List ℕ) (ha : All AlphabetChar a) (long : 64 < length a) where
+  ends-early : (g : List ℕ) {e rest : List ℕ} (z : List ℕ) → LineEnd e rest → length g ≤ 64 → g ++ (e ++ z) ≡ a ++ y → ⊥
+  ends-early g {e} z he short eq =
+      let (c, r, hc, head) = shorter-start AlphabetChar g (e ++ z) a y ha (omega arith) eq in
+      end-no-alphabet (end-head he z head) hc
+
+  strict-lines-short : {l : List ℕ} → StrictLines l → l ++ x ≡ a ++ y → ⊥
+  strict-lines-short (StrictLines.final n g e hg hn he) eq =
+      let k : length g ≡ 4 * n = groups-length hg in
+      ends-early g x he (omega arith) (sym (append-assoc g e x) ∙ eq)
+  strict-lines-short (StrictLines.line n e rest hn full he l) eq = ends-early n (rest ++ x) he (omega arith) (simp append-assoc at eq)
+
+  pub strict-body-short : {b : List ℕ} → StrictBody b → b ++ x ≡ 10 ∷ (a ++ y) → ⊥
+  strict-body-short (StrictBody.strict e rest crlf l) eq = let k : _≡_ {A = ℕ} 13 10 = head-eq-of-cons-eq eq in omega arith
+  strict-body-short (StrictBody.strict e rest (cr h) l) eq = let k : _≡_ {A = ℕ} 13 10 = head-eq-of-cons-eq eq in omega arith
+  strict-body-short (StrictBody.strict e rest lf l) eq = strict-lines-short l (tail-eq-of-cons-eq eq)

@@ -7,8 +7,28 @@ use Prim.Native.Nat.{ℕ}
 use native.Mathlib.Omega.{arith}
 use Rattle.base64.specs.Lists.{All}
 use Rattle.base64.specs.Alphabet.{AlphabetChar, alphabet, placeIn, valueOf, pad}
+use Rattle.base64.proofs.Alphabet.{pad-outside}
 use Rattle.base64.proofs.Lists.{all-imp}
 use Rattle.grammar.specs.Marks.{CR, LF, hyphen, Blank, White, LineEnd, crlf, cr, lf, LabelChar, Separator, LabelChars, last, next, separated, Label, empty, chars}
+
+-- ---- what is no alphabet character
+
+-- A mark outside the alphabet.
+outside : {c mark : ℕ} → valueOf mark ≡ 64 → c ≡ mark → ¬ AlphabetChar c
+outside out e h = let k : valueOf _ ≡ 64 = ap valueOf e ∙ out in omega arith
+
+pub pad-no-alphabet : ¬ AlphabetChar pad
+pad-no-alphabet = outside pad-outside refl
+
+pub blank-no-alphabet : {c : ℕ} → Blank c → ¬ AlphabetChar c
+unfolding valueOf placeIn alphabet
+blank-no-alphabet (inl e) = outside refl e
+blank-no-alphabet (inr e) = outside refl e
+
+pub end-no-alphabet : {c : ℕ} → (c ≡ CR) ⊎ (c ≡ LF) → ¬ AlphabetChar c
+unfolding valueOf placeIn alphabet
+end-no-alphabet (inl e) = outside refl e
+end-no-alphabet (inr e) = outside refl e
 
 -- ---- hyphens
 
@@ -23,12 +43,9 @@ white-no-hyphen c (inr (inr (inl h))) e = omega arith
 white-no-hyphen c (inr (inr (inr (inl h)))) e = omega arith
 white-no-hyphen c (inr (inr (inr (inr h)))) e = omega arith
 
-hyphen-outside : valueOf hyphen ≡ 64
-unfolding valueOf placeIn alphabet
-hyphen-outside = refl
-
 pub alphabet-no-hyphen : (c : ℕ) → AlphabetChar c → NoHyphen c
-alphabet-no-hyphen c h e = let k : valueOf c ≡ 64 = ap valueOf e ∙ hyphen-outside in omega arith
+unfolding valueOf placeIn alphabet
+alphabet-no-hyphen c h e = outside refl e h
 
 pub pad-no-hyphen : NoHyphen pad
 pad-no-hyphen e = omega arith

@@ -3,28 +3,27 @@
 -- Assumes nothing.
 use mathlib.Core.Path.{_≡_, refl, sym, _∙_, subst, ap}
 use mathlib.Core.Logic.{_⊎_, inl, inr}
-use mathlib.Core.List.{List, [], _∷_, _++_, head-eq-of-cons-eq, tail-eq-of-cons-eq, nil≢cons, append-cancel-left, append-nil}
+use mathlib.Core.List.{List, [], _∷_, _++_, head-eq-of-cons-eq, tail-eq-of-cons-eq, nil≢cons, cons≢nil, append-cancel-left, append-nil}
 use Prim.Native.Nat.{ℕ, zero, suc, _≤_}
 use native.Mathlib.Omega.{arith}
 use lib.Dec.{lit<, lit≤}
 use lib.ListN.{replicate}
 use Rattle.base64.specs.Lists.{All}
 use Rattle.base64.proofs.Lists.{all-imp}
-use Rattle.base64.proofs.Alphabet.{pad-outside}
 use Rattle.base64.specs.Alphabet.{pad, AlphabetChar, alphabet, placeIn, valueOf}
 use Rattle.base64.specs.Groups.{CountsFit}
-use Rattle.grammar.specs.Marks.{begin, CR, LF, Blank, White, LineEnd, crlf, cr, lf, LabelChars, Label}
+use Rattle.grammar.specs.Marks.{begin, end, CR, LF, Blank, White, LineEnd, crlf, cr, lf, LabelChars, Label}
 use Rattle.grammar.specs.Grammars.{Mixed, LaxPads, LaxBody, FinalLine, StandardLines, BlankLines, StandardBody, StandardAfter, Groups, StrictLines, StrictBody, Before, Body, After}
 use Rattle.grammar.specs.Message.{Reading, textOf, Shape, Consistent, dataOf, Message, characters, padCount}
-use Rattle.grammar.specs.Bundle.{Bundle}
-use Rattle.grammar.specs.Samples.{accepted, refused, Holds, row, RowHolds, rows, Samples, beginA, endB, around, M, unendedM, itemA}
+use Rattle.grammar.specs.Bundle.{joinedText, Shapes, Bundle}
+use Rattle.grammar.specs.Samples.{accepted, refused, Holds, BundleRefused, row, RowHolds, rows, Samples, beginA, endB, around, M, unendedM, itemA}
 use Rattle.grammar.specs.declared.Grammar.{Grammar}
 use Rattle.grammar.specs.declared.Grammar.the-variants.{Lax, Standard, Strict}
 use Rattle.grammar.proofs.Runs.{Stop, run-unique}
-use Rattle.grammar.proofs.Marks.{NoHyphen, end-white, end-some, end-head, blank-no-end, label-unique}
-use Rattle.grammar.proofs.Grammars.{strict-body-standard, lax-body-no-hyphen, standard-body-lax, one-end-no-body, strict-body-head}
-use Rattle.grammar.proofs.Message.{Wider, strict-standard, standard-lax, shape-widens, consistent-widens, message-widens, no-white-hyphen, text-then, reading-unique}
-use Rattle.grammar.proofs.Bundle.{strict-bundle, text-some}
+use Rattle.grammar.proofs.Marks.{NoHyphen, pad-no-alphabet, blank-no-alphabet, end-no-alphabet, end-white, end-some, end-head, blank-no-end, label-unique}
+use Rattle.grammar.proofs.Grammars.{strict-body-standard, lax-body-no-hyphen, standard-body-lax, one-end-no-body, strict-body-head, strict-body-short}
+use Rattle.grammar.proofs.Message.{Wider, strict-standard, standard-lax, shape-widens, shape-lax, consistent-widens, message-widens, no-white-hyphen, text-then, reading-unique}
+use Rattle.grammar.proofs.Bundle.{strict-bundle, text-some, readings-unique}
 
 -- ---- rows by the narrowest grammar that accepts
 
@@ -224,28 +223,15 @@ data LineTail : List ℕ → Type 0 where
   final : (p : ℕ) (b e : List ℕ) → All Blank b → LineEnd e [] → LineTail (replicate p pad ++ (b ++ e))
   more : (b e rest : List ℕ) → All Blank b → LineEnd e rest → LineTail (b ++ (e ++ rest))
 
-no-letter : (c : ℕ) → valueOf c ≡ 64 → ¬ AlphabetChar c
-no-letter c e h = omega arith
-
-blank-no-letter : {c : ℕ} → Blank c → ¬ AlphabetChar c
-unfolding valueOf placeIn alphabet
-blank-no-letter {c} (inl e) = no-letter c (ap valueOf e)
-blank-no-letter {c} (inr e) = no-letter c (ap valueOf e)
-
-end-no-letter : {c : ℕ} → (c ≡ CR) ⊎ (c ≡ LF) → ¬ AlphabetChar c
-unfolding valueOf placeIn alphabet
-end-no-letter {c} (inl e) = no-letter c (ap valueOf e)
-end-no-letter {c} (inr e) = no-letter c (ap valueOf e)
-
 blanks-stop : (b : List ℕ) {e rest : List ℕ} (x : List ℕ) → All Blank b → LineEnd e rest → Stop AlphabetChar (b ++ (e ++ x))
-blanks-stop [] x hb crlf = end-no-letter (inl refl)
-blanks-stop [] x hb (cr h) = end-no-letter (inl refl)
-blanks-stop [] x hb lf = end-no-letter (inr refl)
-blanks-stop (c ∷ b) x hb he = blank-no-letter (hb .0)
+blanks-stop [] x hb crlf = end-no-alphabet (inl refl)
+blanks-stop [] x hb (cr h) = end-no-alphabet (inl refl)
+blanks-stop [] x hb lf = end-no-alphabet (inr refl)
+blanks-stop (c ∷ b) x hb he = blank-no-alphabet (hb .0)
 
 tail-stop : (p : ℕ) (b : List ℕ) {e : List ℕ} → All Blank b → LineEnd e [] → Stop AlphabetChar (replicate p pad ++ (b ++ e))
 tail-stop zero b {e} hb he = rw append-nil at (blanks-stop b {e = e} [] hb he)
-tail-stop (suc p) b hb he = no-letter pad pad-outside
+tail-stop (suc p) b hb he = pad-no-alphabet
 
 module _ (a x : List ℕ) (ha : All AlphabetChar a) (stop : Stop AlphabetChar x) where
   line-tail : {l : List ℕ} → StandardLines l → l ≡ a ++ x → LineTail x
@@ -257,8 +243,8 @@ module _ (a x : List ℕ) (ha : All AlphabetChar a) (stop : Stop AlphabetChar x)
 skip-none : {l : List ℕ} → BlankLines l → (c : ℕ) (a x : List ℕ) → AlphabetChar c → All AlphabetChar a → Stop AlphabetChar x
     → l ≡ c ∷ (a ++ x) → LineTail x
 skip-none (BlankLines.lines l) c a x hc ha stop z = line-tail (c ∷ a) x (hc, ha) stop l z
-skip-none (BlankLines.blank h l) c a x hc ha stop z = absurd (blank-no-letter (subst Blank (head-eq-of-cons-eq z) h) hc)
-skip-none (BlankLines.line-end e rest he l) c a x hc ha stop z = absurd (end-no-letter (end-head he rest z) hc)
+skip-none (BlankLines.blank h l) c a x hc ha stop z = absurd (blank-no-alphabet (subst Blank (head-eq-of-cons-eq z) h) hc)
+skip-none (BlankLines.line-end e rest he l) c a x hc ha stop z = absurd (end-no-alphabet (end-head he rest z) hc)
 
 -- The first line, behind the opening's LF.
 first-line : {b : List ℕ} → StandardBody b → (c : ℕ) (a x : List ℕ) → AlphabetChar c → All AlphabetChar a → Stop AlphabetChar x
@@ -311,7 +297,7 @@ no-blank-inside (LineTail.more b e rest hb he) z = blank-then-digit b rest hb he
 Zm-standard : Holds Standard (around (10 ∷ 90 ∷ 109 ∷ 32 ∷ 57 ∷ 118 ∷ 10 ∷ [])) refused
 unfolding valueOf placeIn alphabet
 Zm-standard = unmet Standard Lax (closed _) (closed-shape Lax (10 ∷ 90 ∷ 109 ∷ 32 ∷ 57 ∷ 118 ∷ 10 ∷ []) Zm-lax-body)
-    (λ s c. no-blank-inside (first-line (s .body) 90 (109 ∷ []) (32 ∷ 57 ∷ 118 ∷ 10 ∷ []) (lit< tt) (lit< tt, tt) (no-letter 32 refl) refl) refl)
+    (λ s c. no-blank-inside (first-line (s .body) 90 (109 ∷ []) (32 ∷ 57 ∷ 118 ∷ 10 ∷ []) (lit< tt) (lit< tt, tt) (blank-no-alphabet (inr refl)) refl) refl)
 
 -- `Zg=`, LF, `=`: under standard the pads stand together.
 split-pads : LaxBody (10 ∷ 90 ∷ 103 ∷ 61 ∷ 10 ∷ 61 ∷ 10 ∷ [])
@@ -347,7 +333,7 @@ no-split (LineTail.more b e rest hb he) z = pad-no-end (blanks-end-head b rest h
 split-standard : Holds Standard (around (10 ∷ 90 ∷ 103 ∷ 61 ∷ 10 ∷ 61 ∷ 10 ∷ [])) refused
 unfolding valueOf placeIn alphabet
 split-standard = unmet Standard Lax (closed _) (closed-shape Lax (10 ∷ 90 ∷ 103 ∷ 61 ∷ 10 ∷ 61 ∷ 10 ∷ []) split-pads)
-    (λ s c. no-split (first-line (s .body) 90 (103 ∷ []) (61 ∷ 10 ∷ 61 ∷ 10 ∷ []) (lit< tt) (lit< tt, tt) (no-letter 61 refl) refl) refl)
+    (λ s c. no-split (first-line (s .body) 90 (103 ∷ []) (61 ∷ 10 ∷ 61 ∷ 10 ∷ []) (lit< tt) (lit< tt, tt) pad-no-alphabet refl) refl)
 
 -- ---- labels that differ, a sixth hyphen, no text
 
@@ -357,17 +343,33 @@ B-lax =
     (shape Lax M-body 66 (10 ∷ []) (omega arith) (standard-body-lax (strict-body-standard M-strict-body)) (lf-after Lax))
     (λ s c. let e : _≡_ {A = ℕ} 65 66 = head-eq-of-cons-eq (c .labels) in omega arith)
 
+-- What stands behind the opening of "A": the body, then the closing.
+behind-A : (g : Grammar) (r : Reading) → Shape g r → (x : List ℕ) → beginA ++ x ≡ textOf r
+    → (z : List ℕ) × (r .body ++ (end ++ z) ≡ x ++ [])
+behind-A g r h x e =
+    let s = shape-lax g r h in
+    let p1 = run-unique White (r .before) [] _ _ (s .before) tt no-white-hyphen no-white-hyphen
+    (sym (text-then r []) ∙ ap (λ (t : List ℕ). t ++ []) (sym e)) in
+    let p2 = label-unique (s .openingLabel) (capital 65 (omega arith)) _ _ (append-cancel-left begin _ _ (p1 .1)) in
+    (_, append-cancel-left (45 ∷ 45 ∷ 45 ∷ []) _ _ (p2 .1))
+
 sixth-lax : Holds Lax (around (45 ∷ M-body)) refused
 sixth-lax label content m =
-    let r = m .reading in
-    let s = m .shape in
-    let p1 = run-unique White (r .before) [] _ _ (s .before) tt no-white-hyphen no-white-hyphen
-    (sym (text-then r []) ∙ ap (λ (t : List ℕ). t ++ []) (sym (m .joined))) in
-    let p2 = label-unique (s .openingLabel) (capital 65 (omega arith)) _ _ (append-cancel-left begin _ _ (p1 .1)) in
-    let p3 = run-unique NoHyphen (r .body) [] _ _ (lax-body-no-hyphen (s .body)) tt (λ h. h refl) (λ h. h refl)
-    (append-cancel-left (45 ∷ 45 ∷ 45 ∷ []) _ _ (p2 .1)) in
-    let e : _≡_ {A = ℕ} 45 10 = head-eq-of-cons-eq (tail-eq-of-cons-eq (p3 .1)) in
+    let (z, e) = behind-A Lax (m .reading) (m .shape) _ (m .joined) in
+    let p = run-unique NoHyphen (m .reading .body) [] _ _ (lax-body-no-hyphen (m .shape .body)) tt (λ h. h refl) (λ h. h refl) e in
+    let k : _≡_ {A = ℕ} 45 10 = head-eq-of-cons-eq (tail-eq-of-cons-eq (p .1)) in
     omega arith
+
+-- A first line of 65 characters, whatever follows.
+all-A : (n : ℕ) → All AlphabetChar (replicate n 65)
+unfolding valueOf placeIn alphabet
+all-A zero = tt
+all-A (suc n) = (lit< tt, all-A n)
+
+long-line : (y : List ℕ) → Holds Strict (beginA ++ (10 ∷ (replicate 65 65 ++ y))) refused
+long-line y label content m =
+    let (z, e) = behind-A Strict (m .reading) (m .shape) (10 ∷ (replicate 65 65 ++ y)) (m .joined) in
+    strict-body-short (end ++ z) (replicate 65 65) (y ++ []) (all-A 65) (lit< tt) (m .shape .body) e
 
 none-lax : Holds Lax [] refused
 none-lax label content m = text-some (m .reading) [] (ap (λ (t : List ℕ). t ++ []) (m .joined))
@@ -438,16 +440,38 @@ twice = record {
   hasTable = refl;
 }
 
+abbrev unended-readings : List Reading
+unended-readings = reading M-body (65 ∷ []) [] ∷ closed M-body ∷ []
+
+unended-shapes : Shapes Standard unended-readings
+unended-shapes = (unended-shape, (record { shape = shape-widens strict-standard (closed M-body) M-shape; noneBefore = refl }, tt))
+
 unended : Bundle Standard (unendedM ++ M) (itemA ∷ itemA ∷ []) (2 ∷ 0 ∷ 38 ∷ 11 ∷ 1 ∷ 1 ∷ 38 ∷ 39 ∷ 49 ∷ 1 ∷ 1 ∷ [])
 unfolding valueOf placeIn alphabet characters
 unended = record {
-  readings = reading M-body (65 ∷ []) [] ∷ closed M-body ∷ [];
+  readings = unended-readings;
   joined = refl;
-  shapes = (unended-shape, (record { shape = shape-widens strict-standard (closed M-body) M-shape; noneBefore = refl }, tt));
+  shapes = unended-shapes;
   consistent = (unended-consistent, (consistent-widens strict-standard (closed M-body) M-is-consistent, tt));
   hasList = refl;
   hasTable = refl;
 }
+
+unended-strict-bundle : BundleRefused Strict (unendedM ++ M)
+unended-strict-bundle list table b =
+    let e = readings-unique Strict Standard (b .readings) unended-readings (b .shapes) unended-shapes (sym (b .joined)) in
+    end-some (subst (Shapes Strict) e (b .shapes) .0 .after) [] refl
+
+-- Two spaces: a message has a hyphen behind its white.
+spaces-message : (rs : List Reading) → Shapes Lax rs → 32 ∷ 32 ∷ [] ≡ joinedText rs → ⊥
+spaces-message [] s e = cons≢nil e
+spaces-message (r ∷ rs) s e =
+    let blank : White 32 = inl (inr refl) in
+    let p = run-unique White (r .before) (32 ∷ 32 ∷ []) _ [] (s .0 .before) (blank, (blank, tt)) no-white-hyphen tt (sym (text-then r (joinedText rs)) ∙ sym e) in
+    cons≢nil (p .1)
+
+spaces : BundleRefused Lax (32 ∷ 32 ∷ [])
+spaces list table b = spaces-message (b .readings) (b .shapes) (b .joined)
 
 none : (g : Grammar) → Bundle g [] [] (0 ∷ [])
 none g = record { readings = []; joined = refl; shapes = tt; consistent = tt; hasList = refl; hasTable = refl }
@@ -455,8 +479,11 @@ none g = record { readings = []; joined = refl; shapes = tt; consistent = tt; ha
 pub samples : Samples
 samples = record {
   starred = starred;
+  longLine = long-line;
   once = λ g. strict-bundle g once;
   twice = λ g. strict-bundle g twice;
   unended = unended;
+  unendedStrict = unended-strict-bundle;
   none = none;
+  spaces = spaces;
 }

@@ -2,6 +2,7 @@
 -- spelled out in bytes. The numbers and places of refusals are the reader's and stand with it. Assumes nothing.
 use mathlib.Core.List.{List, [], _∷_, _++_}
 use Prim.Native.Nat.{ℕ}
+use lib.ListN.{replicate}
 use Rattle.base64.specs.Lists.{All}
 use Rattle.grammar.specs.Message.{Message}
 use Rattle.grammar.specs.Bundle.{Item, Bundle}
@@ -78,15 +79,25 @@ rows =
     ∷ row [] refused refused refused
     ∷ []
 
--- A bundle of items "A" with the one byte 66 hex.
+-- An item: "A" with the one byte 66 hex.
 abbrev pub itemA : Item
 itemA = record { label = 65 ∷ []; content = 102 ∷ [] }
 
--- The claim: every row; M once and twice under every grammar; M without its LF, then M, under standard and so under lax;
--- the empty text.
+abbrev pub BundleRefused : Grammar → List ℕ → Type 0
+BundleRefused g text = (list : List Item) (table : List ℕ) → ¬ Bundle g text list table
+
+-- The claim.
 pub record Samples : Type 0 where
+  -- every row marked *
   pub starred : All RowHolds rows
+  -- a first line of 65 characters, whatever follows it
+  pub longLine : (rest : List ℕ) → Holds Strict (beginA ++ (10 ∷ (replicate 65 65 ++ rest))) refused
+  -- M once and twice, under every grammar
   pub once : (g : Grammar) → Bundle g M (itemA ∷ []) (1 ∷ 0 ∷ 39 ∷ 11 ∷ 1 ∷ 1 ∷ [])
   pub twice : (g : Grammar) → Bundle g (M ++ M) (itemA ∷ itemA ∷ []) (2 ∷ 0 ∷ 39 ∷ 11 ∷ 1 ∷ 1 ∷ 39 ∷ 39 ∷ 50 ∷ 1 ∷ 1 ∷ [])
+  -- M without its LF, then M: under standard, and so under lax, but not under strict
   pub unended : Bundle Standard (unendedM ++ M) (itemA ∷ itemA ∷ []) (2 ∷ 0 ∷ 38 ∷ 11 ∷ 1 ∷ 1 ∷ 38 ∷ 39 ∷ 49 ∷ 1 ∷ 1 ∷ [])
+  pub unendedStrict : BundleRefused Strict (unendedM ++ M)
+  -- the empty text is a bundle, and a text of two spaces is none even under lax
   pub none : (g : Grammar) → Bundle g [] [] (0 ∷ [])
+  pub spaces : BundleRefused Lax (32 ∷ 32 ∷ [])
