@@ -9,7 +9,7 @@ use Rattle.base64.specs.Lists.{All}
 use Rattle.base64.specs.Alphabet.{AlphabetChar, pad}
 use Rattle.base64.proofs.Lists.{all-append, all-imp}
 use Rattle.grammar.specs.Marks.{Blank, White, LineEnd, crlf, cr, lf}
-use Rattle.grammar.specs.Grammars.{Mixed, LaxPads, LaxBody, FinalLine, StandardLines, BlankLines, StandardBody, StandardAfter, Groups, StrictLines, StrictBody}
+use Rattle.grammar.specs.Grammars.{Mixed, LaxPads, LaxBody, FinalLine, StandardLines, BlankLines, StandardBody, StandardAfter, lineChars, Groups, StrictLines, StrictBody}
 use Rattle.grammar.proofs.Marks.{NoHyphen, white-no-hyphen, alphabet-no-hyphen, pad-no-hyphen, blanks-white, end-white, end-some, end-head, end-no-alphabet, blank-no-end}
 
 -- ---- no hyphen in a lax body
@@ -94,7 +94,7 @@ groups-final-line e (Groups.two {a} {b} ha hb) he = FinalLine.final (a ∷ b ∷
 groups-final-line e (Groups.more {a} {b} {c} {d} ha hb hc hd g) he =
     alphabet-then (a ∷ b ∷ c ∷ d ∷ []) (ha, (hb, (hc, (hd, tt)))) (groups-final-line e g he)
 
-full-line-some : (a : List ℕ) → length a ≡ 64 → a ≢ []
+full-line-some : (a : List ℕ) → length a ≡ lineChars → a ≢ []
 full-line-some a h e = let k : length a ≡ 0 = ap length e in omega arith
 
 lines-standard : {l : List ℕ} → StrictLines l → StandardLines l

@@ -105,13 +105,13 @@ M-strict-body : StrictBody M-body
 unfolding valueOf placeIn alphabet
 M-strict-body = two-pads 103 (lit< tt)
 
-M-consistent : (closingLabel after : List ℕ) → 65 ∷ [] ≡ closingLabel → Consistent Strict (reading M-body closingLabel after)
+M-consistent : (after : List ℕ) → Consistent Strict (reading M-body (65 ∷ []) after)
 unfolding valueOf placeIn alphabet characters padCount
-M-consistent closingLabel after e = record { labels = e; counts = inr (inl (refl, refl)); spare = refl }
+M-consistent after = record { labels = refl; counts = inr (inl (refl, refl)); spare = refl }
 
 M-row : Holds Strict M (accepted (102 ∷ []))
 unfolding valueOf placeIn alphabet characters
-M-row = message Strict (closed M-body) (closed-shape Strict M-body M-strict-body) (M-consistent (65 ∷ []) (10 ∷ []) refl)
+M-row = message Strict (closed M-body) (closed-shape Strict M-body M-strict-body) (M-consistent (10 ∷ []))
 
 -- `Zh==`: the spare bits are 1.
 abbrev Zh-body : List ℕ
@@ -139,7 +139,7 @@ unended-shape : Shape Standard (reading M-body (65 ∷ []) [])
 unended-shape = shape Standard M-body 65 [] (omega arith) (strict-body-standard M-strict-body) (StandardAfter.no-end tt)
 
 unended-consistent : Consistent Standard (reading M-body (65 ∷ []) [])
-unended-consistent = consistent-widens strict-standard (reading M-body (65 ∷ []) []) (M-consistent (65 ∷ []) [] refl)
+unended-consistent = consistent-widens strict-standard (reading M-body (65 ∷ []) []) (M-consistent [])
 
 unended-standard : Holds Standard unendedM (accepted (102 ∷ []))
 unfolding valueOf placeIn alphabet characters
@@ -415,16 +415,13 @@ starred = (
 M-shape : Shape Strict (closed M-body)
 M-shape = closed-shape Strict M-body M-strict-body
 
-M-is-consistent : Consistent Strict (closed M-body)
-M-is-consistent = M-consistent (65 ∷ []) (10 ∷ []) refl
-
 once : Bundle Strict M (itemA ∷ []) (1 ∷ 0 ∷ 39 ∷ 11 ∷ 1 ∷ 1 ∷ [])
 unfolding valueOf placeIn alphabet characters
 once = record {
   readings = closed M-body ∷ [];
   joined = refl;
   shapes = (M-shape, tt);
-  consistent = (M-is-consistent, tt);
+  consistent = (M-consistent (10 ∷ []), tt);
   hasList = refl;
   hasTable = refl;
 }
@@ -435,7 +432,7 @@ twice = record {
   readings = closed M-body ∷ closed M-body ∷ [];
   joined = refl;
   shapes = (M-shape, (record { shape = M-shape; noneBefore = refl }, tt));
-  consistent = (M-is-consistent, (M-is-consistent, tt));
+  consistent = (M-consistent (10 ∷ []), (M-consistent (10 ∷ []), tt));
   hasList = refl;
   hasTable = refl;
 }
@@ -452,7 +449,7 @@ unended = record {
   readings = unended-readings;
   joined = refl;
   shapes = unended-shapes;
-  consistent = (unended-consistent, (consistent-widens strict-standard (closed M-body) M-is-consistent, tt));
+  consistent = (unended-consistent, (consistent-widens strict-standard (closed M-body) (M-consistent (10 ∷ [])), tt));
   hasList = refl;
   hasTable = refl;
 }
