@@ -15,11 +15,12 @@ use Rattle.base64.proofs.Tests.{run, below-at, run-at}
 place-found : (xs : List ℕ) (c : ℕ) → placeIn xs c < length xs → getD xs (placeIn xs c) 0 ≡ c
 unfolding placeIn
 place-found [] c h = absurd (omega arith)
-place-found (x ∷ xs) c h = go (eqb x c) refl (place-found xs c)
+place-found (x ∷ xs) c h = go (eqb x c) refl (place-found xs c) h
   where
-    go : (b : Bool) → eqb x c ≡ b → (placeIn xs c < length xs → getD xs (placeIn xs c) 0 ≡ c) → getD (x ∷ xs) (placeIn (x ∷ xs) c) 0 ≡ c
-    go true e later = rw (placeIn, e) (eqb-true x c e)
-    go false e later = rw (placeIn, e) (later (let k : cond (eqb x c) 0 (suc (placeIn xs c)) < suc (length xs) = h in let l : suc (placeIn xs c) < suc (length xs) = rw e at k in omega arith))
+    go : (here : Bool) → eqb x c ≡ here → (placeIn xs c < length xs → getD xs (placeIn xs c) 0 ≡ c)
+        → cond here 0 (suc (placeIn xs c)) < length (x ∷ xs) → getD (x ∷ xs) (cond here 0 (suc (placeIn xs c))) 0 ≡ c
+    go true e later k = eqb-true x c e
+    go false e later k = later (omega arith)
 
 -- The character of a value has that value: one test over the alphabet.
 pub value-char : (v : ℕ) → Sextet v → valueOf (charOf v) ≡ v

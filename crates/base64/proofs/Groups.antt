@@ -55,6 +55,16 @@ values-counts (x ∷ []) = inr (inl (refl, refl))
 values-counts (x ∷ y ∷ []) = inr (inr (refl, refl))
 values-counts (x ∷ y ∷ z ∷ r) = counts-more (length (toValues r)) (padsFor r) (values-counts r)
 
+-- ---- a group is one number of 24 bits, as three digits of eight bits and as four of six
+
+pub values-number : (x y z : ℕ) → Octet y → Octet z
+    → ((value1 x * 64 + value2 x y) * 64 + value3 y z) * 64 + value4 z ≡ (x * 256 + y) * 256 + z
+values-number x y z hy hz = omega arith
+
+pub bytes-number : (a b c d : ℕ) → Sextet b → Sextet c
+    → (byte1 a b * 256 + byte2 b c) * 256 + byte3 c d ≡ ((a * 64 + b) * 64 + c) * 64 + d
+bytes-number a b c d hb hc = omega arith
+
 -- ---- decoding inverts encoding
 
 byte1-back : (x y : ℕ) → Octet y → byte1 (value1 x) (value2 x y) ≡ x

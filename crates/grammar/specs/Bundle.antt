@@ -32,18 +32,22 @@ pub record Item : Type 0 where
 abbrev pub itemOf : Reading → Item
 itemOf r = record { label = r .openingLabel; content = dataOf r }
 
--- The five numbers of each message: start, length, label offset, label length, data size. The first starts at the offset.
-abbrev pub entriesFrom : ℕ → List Reading → List ℕ
-entriesFrom start [] = []
-entriesFrom start (r ∷ rs) =
+-- The numbers of a message that starts at an offset of the text: start, length, label offset, label length, data size.
+abbrev pub entryOf : ℕ → Reading → List ℕ
+entryOf start r =
     start
     ∷ length (textOf r)
     ∷ (start + (length (r .before) + length begin))
     ∷ length (r .openingLabel)
     ∷ length (dataOf r)
-    ∷ entriesFrom (start + length (textOf r)) rs
+    ∷ []
 
--- The index table: the count, then those numbers.
+-- The numbers of messages end to end, of which the first starts at an offset of the text.
+abbrev pub entriesFrom : ℕ → List Reading → List ℕ
+entriesFrom start [] = []
+entriesFrom start (r ∷ rs) = entryOf start r ++ entriesFrom (start + length (textOf r)) rs
+
+-- The index table: the count, then the numbers of each message. The first message starts at 0.
 abbrev pub tableOf : List Reading → List ℕ
 tableOf rs = length rs ∷ entriesFrom 0 rs
 
