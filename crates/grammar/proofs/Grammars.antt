@@ -10,7 +10,7 @@ use Rattle.base64.specs.Alphabet.{AlphabetChar, pad}
 use Rattle.base64.proofs.Lists.{all-append, all-imp}
 use Rattle.grammar.specs.Marks.{Blank, White, LineEnd, crlf, cr, lf}
 use Rattle.grammar.specs.Grammars.{Mixed, LaxPads, LaxBody, FinalLine, StandardLines, BlankLines, StandardBody, StandardAfter, lineChars, Groups, StrictLines, StrictBody}
-use Rattle.grammar.proofs.Marks.{NoHyphen, white-no-hyphen, alphabet-no-hyphen, pad-no-hyphen, blanks-white, end-white, end-some, end-head, end-no-alphabet, blank-no-end}
+use Rattle.grammar.proofs.Marks.{NoHyphen, white-no-hyphen, alphabet-no-hyphen, pad-no-hyphen, blanks-white, end-white, end-some, end-head, end-lf, end-no-alphabet, blank-no-end}
 
 -- ---- no hyphen in a lax body
 
@@ -151,9 +151,7 @@ strict-lines-head (StrictLines.line [] e rest ha full he l) z = absurd (omega ar
 strict-lines-head (StrictLines.line (a ∷ r) e rest ha full he l) z = subst AlphabetChar (head-eq-of-cons-eq z) (ha .0)
 
 pub strict-body-head : {b : List ℕ} → StrictBody b → {c : ℕ} {y : List ℕ} → b ≡ 10 ∷ c ∷ y → AlphabetChar c
-strict-body-head (StrictBody.strict e rest crlf l) z = let k : _≡_ {A = ℕ} 13 10 = head-eq-of-cons-eq z in absurd (omega arith)
-strict-body-head (StrictBody.strict e rest (cr h) l) z = let k : _≡_ {A = ℕ} 13 10 = head-eq-of-cons-eq z in absurd (omega arith)
-strict-body-head (StrictBody.strict e rest lf l) z = strict-lines-head l (tail-eq-of-cons-eq z)
+strict-body-head (StrictBody.strict e rest he l) z = strict-lines-head l (end-lf he rest z)
 
 -- ---- under strict no line is longer than 64 characters
 
@@ -183,6 +181,4 @@ module _ (x a y : List ℕ) (ha : All AlphabetChar a) (long : 64 < length a) whe
   strict-lines-short (StrictLines.line n e rest hn full he l) eq = ends-early n (rest ++ x) he (omega arith) (simp append-assoc at eq)
 
   pub strict-body-short : {b : List ℕ} → StrictBody b → b ++ x ≡ 10 ∷ (a ++ y) → ⊥
-  strict-body-short (StrictBody.strict e rest crlf l) eq = let k : _≡_ {A = ℕ} 13 10 = head-eq-of-cons-eq eq in omega arith
-  strict-body-short (StrictBody.strict e rest (cr h) l) eq = let k : _≡_ {A = ℕ} 13 10 = head-eq-of-cons-eq eq in omega arith
-  strict-body-short (StrictBody.strict e rest lf l) eq = strict-lines-short l (tail-eq-of-cons-eq eq)
+  strict-body-short (StrictBody.strict e rest he l) eq = strict-lines-short l (end-lf he (rest ++ x) (sym (append-assoc e rest x) ∙ eq))

@@ -73,6 +73,12 @@ end-head crlf x e = inl (sym (head-eq-of-cons-eq e))
 end-head (cr h) x e = inl (sym (head-eq-of-cons-eq e))
 end-head lf x e = inr (sym (head-eq-of-cons-eq e))
 
+-- One that starts with LF is LF.
+pub end-lf : {e rest : List ℕ} → LineEnd e rest → (x : List ℕ) {y : List ℕ} → e ++ x ≡ LF ∷ y → x ≡ y
+end-lf crlf x e = let k : CR ≡ LF = head-eq-of-cons-eq e in absurd (omega arith)
+end-lf (cr h) x e = let k : CR ≡ LF = head-eq-of-cons-eq e in absurd (omega arith)
+end-lf lf x e = tail-eq-of-cons-eq e
+
 pub blank-no-end : {c : ℕ} → Blank c → (c ≡ CR) ⊎ (c ≡ LF) → ⊥
 blank-no-end (inl h) (inl e) = omega arith
 blank-no-end (inl h) (inr e) = omega arith
@@ -93,8 +99,12 @@ no-separator (inr h) (inl e) = omega arith
 no-separator (inr h) (inr e) = omega arith
 
 -- Two hyphens end a label: the first could be a separator, but then a label character stands behind it.
+no-hyphen-char : LabelChar hyphen → ⊥
+no-hyphen-char (inl h) = omega arith
+no-hyphen-char (inr h) = omega arith
+
 chars-no-hyphen : {l : List ℕ} → LabelChars l → (z y : List ℕ) → l ++ z ≡ hyphen ∷ y → ⊥
-chars-no-hyphen w z y e = no-separator (chars-head w z e) (inl refl)
+chars-no-hyphen w z y e = no-hyphen-char (chars-head w z e)
 
 chars-unique : {l m : List ℕ} → LabelChars l → LabelChars m → (x y : List ℕ)
     → l ++ (hyphen ∷ hyphen ∷ x) ≡ m ++ (hyphen ∷ hyphen ∷ y) → (l ≡ m) × (x ≡ y)

@@ -1,8 +1,9 @@
 -- One message: a narrower grammar's reading is a wider grammar's reading, and a text has one reading only.
 -- Assumes nothing.
 use mathlib.Core.Path.{_≡_, refl, sym, _∙_, subst, ap}
-use mathlib.Core.List.{List, [], _∷_, _++_, append-assoc, append-cancel-left}
+use mathlib.Core.List.{List, [], _++_, append-assoc, append-cancel-left}
 use Prim.Native.Nat.{ℕ}
+use lib.ListN.{drop}
 use Rattle.base64.specs.Lists.{All}
 use Rattle.grammar.specs.Marks.{hyphen, White, begin, end, hyphens}
 use Rattle.grammar.specs.Grammars.{StandardAfter}
@@ -76,10 +77,10 @@ lax-parts-unique {r} {s} m n x y sx sy e =
     let p1 = run-unique White (r .before) (s .before) _ _ (m .before) (n .before) no-white-hyphen no-white-hyphen e in
     let p2 = label-unique (m .openingLabel) (n .openingLabel) _ _ (append-cancel-left begin _ _ (p1 .1)) in
     let p3 = run-unique NoHyphen (r .body) (s .body) _ _ (lax-body-no-hyphen (m .body)) (lax-body-no-hyphen (n .body)) (λ h. h refl) (λ h. h refl)
-    (append-cancel-left (hyphen ∷ hyphen ∷ hyphen ∷ []) _ _ (p2 .1)) in
+    (append-cancel-left (drop 2 hyphens) _ _ (p2 .1)) in
     let p4 = label-unique (m .closingLabel) (n .closingLabel) _ _ (append-cancel-left end _ _ (p3 .1)) in
     let p5 = run-unique White (r .after) (s .after) x y (m .after) (n .after) sx sy
-    (append-cancel-left (hyphen ∷ hyphen ∷ hyphen ∷ []) _ _ (p4 .1)) in
+    (append-cancel-left (drop 2 hyphens) _ _ (p4 .1)) in
     (λ i. record { before = p1 .0 i; openingLabel = p2 .0 i; body = p3 .0 i; closingLabel = p4 .0 i; after = p5 .0 i }, p5 .1)
 
 -- Whatever two grammars read the text: neither rest starts with white, so the readings and the rests are the same.

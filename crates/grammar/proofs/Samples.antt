@@ -7,20 +7,20 @@ use mathlib.Core.List.{List, [], _∷_, _++_, head-eq-of-cons-eq, tail-eq-of-con
 use Prim.Native.Nat.{ℕ, zero, suc, _≤_}
 use native.Mathlib.Omega.{arith}
 use lib.Dec.{lit<, lit≤}
-use lib.ListN.{replicate}
+use lib.ListN.{drop, replicate}
 use Rattle.base64.specs.Lists.{All}
 use Rattle.base64.proofs.Lists.{all-imp}
 use Rattle.base64.specs.Alphabet.{pad, AlphabetChar, alphabet, placeIn, valueOf}
 use Rattle.base64.specs.Groups.{CountsFit}
-use Rattle.grammar.specs.Marks.{begin, end, CR, LF, Blank, White, LineEnd, crlf, cr, lf, LabelChars, Label}
+use Rattle.grammar.specs.Marks.{hyphens, begin, end, CR, LF, Blank, White, LineEnd, crlf, cr, lf, LabelChars, Label}
 use Rattle.grammar.specs.Grammars.{Mixed, LaxPads, LaxBody, FinalLine, StandardLines, BlankLines, StandardBody, StandardAfter, Groups, StrictLines, StrictBody, Before, Body, After}
 use Rattle.grammar.specs.Message.{Reading, textOf, Shape, Consistent, dataOf, Message, characters, padCount}
 use Rattle.grammar.specs.Bundle.{joinedText, Shapes, Bundle}
-use Rattle.grammar.specs.Samples.{accepted, refused, Holds, BundleRefused, row, RowHolds, rows, Samples, beginA, endB, around, M, unendedM, itemA}
+use Rattle.grammar.specs.Samples.{accepted, refused, Holds, BundleRefused, row, RowHolds, rows, Samples, beginA, endB, beginAB, endAB, around, M, unendedM, itemA}
 use Rattle.grammar.specs.declared.Grammar.{Grammar}
 use Rattle.grammar.specs.declared.Grammar.the-variants.{Lax, Standard, Strict}
 use Rattle.grammar.proofs.Runs.{Stop, run-unique}
-use Rattle.grammar.proofs.Marks.{NoHyphen, pad-no-alphabet, blank-no-alphabet, end-no-alphabet, end-white, end-some, end-head, blank-no-end, label-unique}
+use Rattle.grammar.proofs.Marks.{NoHyphen, pad-no-alphabet, blank-no-alphabet, end-no-alphabet, end-white, end-some, end-head, end-lf, blank-no-end, label-unique}
 use Rattle.grammar.proofs.Grammars.{strict-body-standard, lax-body-no-hyphen, standard-body-lax, one-end-no-body, strict-body-head, strict-body-short}
 use Rattle.grammar.proofs.Message.{Wider, strict-standard, standard-lax, shape-widens, shape-lax, consistent-widens, message-widens, no-white-hyphen, text-then, reading-unique}
 use Rattle.grammar.proofs.Bundle.{strict-bundle, text-some, readings-unique}
@@ -92,18 +92,20 @@ message g r s c = record { reading = r; joined = refl; shape = s; consistent = c
 
 -- ---- M, and rows like it
 
-two-pads : (c : ℕ) → AlphabetChar c → StrictBody (10 ∷ 90 ∷ c ∷ 61 ∷ 61 ∷ 10 ∷ [])
+-- The line `Zg==`, and others like it.
+two-pads : (c : ℕ) → AlphabetChar c → StrictLines (90 ∷ c ∷ 61 ∷ 61 ∷ 10 ∷ [])
 unfolding valueOf placeIn alphabet
-two-pads c h =
-    StrictBody.strict (10 ∷ []) (90 ∷ c ∷ 61 ∷ 61 ∷ 10 ∷ []) lf
-    (StrictLines.final 1 (90 ∷ c ∷ 61 ∷ 61 ∷ []) (10 ∷ []) (Groups.two (lit< tt) h) (lit≤ tt) lf)
+two-pads c h = StrictLines.final 1 (90 ∷ c ∷ 61 ∷ 61 ∷ []) (10 ∷ []) (Groups.two (lit< tt) h) (lit≤ tt) lf
 
 abbrev M-body : List ℕ
 M-body = 10 ∷ 90 ∷ 103 ∷ 61 ∷ 61 ∷ 10 ∷ []
 
-M-strict-body : StrictBody M-body
+M-line : StrictLines (90 ∷ 103 ∷ 61 ∷ 61 ∷ 10 ∷ [])
 unfolding valueOf placeIn alphabet
-M-strict-body = two-pads 103 (lit< tt)
+M-line = two-pads 103 (lit< tt)
+
+M-strict-body : StrictBody M-body
+M-strict-body = StrictBody.strict (10 ∷ []) (90 ∷ 103 ∷ 61 ∷ 61 ∷ 10 ∷ []) lf M-line
 
 M-consistent : (after : List ℕ) → Consistent Strict (reading M-body (65 ∷ []) after)
 unfolding valueOf placeIn alphabet characters padCount
@@ -119,7 +121,7 @@ Zh-body = 10 ∷ 90 ∷ 104 ∷ 61 ∷ 61 ∷ 10 ∷ []
 
 Zh-strict-body : StrictBody Zh-body
 unfolding valueOf placeIn alphabet
-Zh-strict-body = two-pads 104 (lit< tt)
+Zh-strict-body = StrictBody.strict (10 ∷ []) (90 ∷ 104 ∷ 61 ∷ 61 ∷ 10 ∷ []) lf (two-pads 104 (lit< tt))
 
 Zh-standard : Holds Standard (around Zh-body) (accepted (102 ∷ []))
 unfolding valueOf placeIn alphabet characters padCount
@@ -202,7 +204,10 @@ letter : (c : ℕ) → AlphabetChar c → Mixed c
 letter c h = inr h
 
 -- `Zg=`: two characters and one pad do not fit.
-Zg-lax-body : LaxBody (10 ∷ 90 ∷ 103 ∷ 61 ∷ 10 ∷ [])
+abbrev Zg-body : List ℕ
+Zg-body = 10 ∷ 90 ∷ 103 ∷ 61 ∷ 10 ∷ []
+
+Zg-lax-body : LaxBody Zg-body
 unfolding valueOf placeIn alphabet
 Zg-lax-body =
     LaxBody.lax (10 ∷ 90 ∷ 103 ∷ []) (61 ∷ 10 ∷ []) (mixed-lf, (letter 90 (lit< tt), (letter 103 (lit< tt), tt)))
@@ -213,9 +218,9 @@ one-pad-two (inl h) = omega arith
 one-pad-two (inr (inl h)) = omega arith
 one-pad-two (inr (inr h)) = omega arith
 
-Zg-lax : Holds Lax (around (10 ∷ 90 ∷ 103 ∷ 61 ∷ 10 ∷ [])) refused
+Zg-lax : Holds Lax (around Zg-body) refused
 unfolding valueOf placeIn alphabet characters padCount
-Zg-lax = unmet Lax Lax (closed _) (closed-shape Lax (10 ∷ 90 ∷ 103 ∷ 61 ∷ 10 ∷ []) Zg-lax-body) (λ s c. one-pad-two (c .counts))
+Zg-lax = unmet Lax Lax (closed _) (closed-shape Lax Zg-body Zg-lax-body) (λ s c. one-pad-two (c .counts))
 
 -- What stands behind the characters of a line of a standard body: pads, blanks and the last line end, or blanks, a line end
 -- and more.
@@ -249,16 +254,17 @@ skip-none (BlankLines.line-end e rest he l) c a x hc ha stop z = absurd (end-no-
 -- The first line, behind the opening's LF.
 first-line : {b : List ℕ} → StandardBody b → (c : ℕ) (a x : List ℕ) → AlphabetChar c → All AlphabetChar a → Stop AlphabetChar x
     → b ≡ 10 ∷ c ∷ (a ++ x) → LineTail x
-first-line (StandardBody.standard [] e rest hb crlf l) c a x hc ha stop z = let k : _≡_ {A = ℕ} 13 10 = head-eq-of-cons-eq z in absurd (omega arith)
-first-line (StandardBody.standard [] e rest hb (cr h) l) c a x hc ha stop z = let k : _≡_ {A = ℕ} 13 10 = head-eq-of-cons-eq z in absurd (omega arith)
-first-line (StandardBody.standard [] e rest hb lf l) c a x hc ha stop z = skip-none l c a x hc ha stop (tail-eq-of-cons-eq z)
+first-line (StandardBody.standard [] e rest hb he l) c a x hc ha stop z = skip-none l c a x hc ha stop (end-lf he rest z)
 first-line (StandardBody.standard (d ∷ b) e rest hb he l) c a x hc ha stop z = absurd (blank-no-end (hb .0) (inr (head-eq-of-cons-eq z)))
 
 -- `Zm 9v`: under standard no blank stands inside a line.
-Zm-lax-body : LaxBody (10 ∷ 90 ∷ 109 ∷ 32 ∷ 57 ∷ 118 ∷ 10 ∷ [])
+abbrev Zm-body : List ℕ
+Zm-body = 10 ∷ 90 ∷ 109 ∷ 32 ∷ 57 ∷ 118 ∷ 10 ∷ []
+
+Zm-lax-body : LaxBody Zm-body
 unfolding valueOf placeIn alphabet
 Zm-lax-body =
-    LaxBody.lax (10 ∷ 90 ∷ 109 ∷ 32 ∷ 57 ∷ 118 ∷ 10 ∷ []) [] (
+    LaxBody.lax Zm-body [] (
       mixed-lf,
       (
         letter 90 (lit< tt),
@@ -267,10 +273,10 @@ Zm-lax-body =
     )
     LaxPads.none
 
-Zm-lax : Holds Lax (around (10 ∷ 90 ∷ 109 ∷ 32 ∷ 57 ∷ 118 ∷ 10 ∷ [])) (accepted (102 ∷ 111 ∷ 111 ∷ []))
+Zm-lax : Holds Lax (around Zm-body) (accepted (102 ∷ 111 ∷ 111 ∷ []))
 unfolding valueOf placeIn alphabet characters padCount
 Zm-lax =
-    message Lax (closed (10 ∷ 90 ∷ 109 ∷ 32 ∷ 57 ∷ 118 ∷ 10 ∷ [])) (closed-shape Lax (10 ∷ 90 ∷ 109 ∷ 32 ∷ 57 ∷ 118 ∷ 10 ∷ []) Zm-lax-body)
+    message Lax (closed Zm-body) (closed-shape Lax Zm-body Zm-lax-body)
     record { labels = refl; counts = inl (refl, refl); spare = tt }
 
 -- Blanks and a line end start with a blank or with a line end.
@@ -279,60 +285,55 @@ blanks-end-head : (b : List ℕ) {e rest : List ℕ} (x : List ℕ) → All Blan
 blanks-end-head [] x hb he z = inr (end-head he x z)
 blanks-end-head (d ∷ b) x hb he z = inl (subst Blank (head-eq-of-cons-eq z) (hb .0))
 
-digit-no-end : Blank 57 ⊎ ((_≡_ {A = ℕ} 57 CR) ⊎ (_≡_ {A = ℕ} 57 LF)) → ⊥
-digit-no-end (inl (inl e)) = omega arith
-digit-no-end (inl (inr e)) = omega arith
-digit-no-end (inr (inl e)) = omega arith
-digit-no-end (inr (inr e)) = omega arith
+printed-no-end : (c : ℕ) → 33 ≤ c → Blank c ⊎ ((c ≡ CR) ⊎ (c ≡ LF)) → ⊥
+printed-no-end c h (inl (inl e)) = omega arith
+printed-no-end c h (inl (inr e)) = omega arith
+printed-no-end c h (inr (inl e)) = omega arith
+printed-no-end c h (inr (inr e)) = omega arith
 
 blank-then-digit : (b : List ℕ) {e rest : List ℕ} (x : List ℕ) → All Blank b → LineEnd e rest → (y : List ℕ) → b ++ (e ++ x) ≡ 32 ∷ 57 ∷ y → ⊥
 blank-then-digit [] x hb he y z = blank-no-end (inr refl) (end-head he x z)
-blank-then-digit (d ∷ b) x hb he y z = digit-no-end (blanks-end-head b x (hb .1) he (tail-eq-of-cons-eq z))
+blank-then-digit (d ∷ b) x hb he y z = printed-no-end 57 (lit≤ tt) (blanks-end-head b x (hb .1) he (tail-eq-of-cons-eq z))
 
 no-blank-inside : {x : List ℕ} → LineTail x → x ≡ 32 ∷ 57 ∷ 118 ∷ 10 ∷ [] → ⊥
 no-blank-inside (LineTail.final zero b e hb he) z = blank-then-digit b {e = e} [] hb he _ (ap (λ (l : List ℕ). b ++ l) (append-nil e) ∙ z)
 no-blank-inside (LineTail.final (suc p) b e hb he) z = let k : _≡_ {A = ℕ} 61 32 = head-eq-of-cons-eq z in omega arith
 no-blank-inside (LineTail.more b e rest hb he) z = blank-then-digit b rest hb he _ z
 
-Zm-standard : Holds Standard (around (10 ∷ 90 ∷ 109 ∷ 32 ∷ 57 ∷ 118 ∷ 10 ∷ [])) refused
+Zm-standard : Holds Standard (around Zm-body) refused
 unfolding valueOf placeIn alphabet
-Zm-standard = unmet Standard Lax (closed _) (closed-shape Lax (10 ∷ 90 ∷ 109 ∷ 32 ∷ 57 ∷ 118 ∷ 10 ∷ []) Zm-lax-body)
+Zm-standard = unmet Standard Lax (closed _) (closed-shape Lax Zm-body Zm-lax-body)
     (λ s c. no-blank-inside (first-line (s .body) 90 (109 ∷ []) (32 ∷ 57 ∷ 118 ∷ 10 ∷ []) (lit< tt) (lit< tt, tt) (blank-no-alphabet (inr refl)) refl) refl)
 
 -- `Zg=`, LF, `=`: under standard the pads stand together.
-split-pads : LaxBody (10 ∷ 90 ∷ 103 ∷ 61 ∷ 10 ∷ 61 ∷ 10 ∷ [])
+abbrev split-body : List ℕ
+split-body = 10 ∷ 90 ∷ 103 ∷ 61 ∷ 10 ∷ 61 ∷ 10 ∷ []
+
+split-lax-body : LaxBody split-body
 unfolding valueOf placeIn alphabet
-split-pads =
+split-lax-body =
     LaxBody.lax (10 ∷ 90 ∷ 103 ∷ []) (61 ∷ 10 ∷ 61 ∷ 10 ∷ []) (mixed-lf, (letter 90 (lit< tt), (letter 103 (lit< tt), tt)))
     (LaxPads.two (10 ∷ []) (10 ∷ []) (white-lf, tt) (white-lf, tt))
 
-split-lax : Holds Lax (around (10 ∷ 90 ∷ 103 ∷ 61 ∷ 10 ∷ 61 ∷ 10 ∷ [])) (accepted (102 ∷ []))
+split-lax : Holds Lax (around split-body) (accepted (102 ∷ []))
 unfolding valueOf placeIn alphabet characters padCount
 split-lax =
-    message Lax (closed (10 ∷ 90 ∷ 103 ∷ 61 ∷ 10 ∷ 61 ∷ 10 ∷ [])) (closed-shape Lax (10 ∷ 90 ∷ 103 ∷ 61 ∷ 10 ∷ 61 ∷ 10 ∷ []) split-pads)
+    message Lax (closed split-body) (closed-shape Lax split-body split-lax-body)
     record { labels = refl; counts = inr (inl (refl, refl)); spare = tt }
 
-pad-no-end : Blank 61 ⊎ ((_≡_ {A = ℕ} 61 CR) ⊎ (_≡_ {A = ℕ} 61 LF)) → ⊥
-pad-no-end (inl (inl e)) = omega arith
-pad-no-end (inl (inr e)) = omega arith
-pad-no-end (inr (inl e)) = omega arith
-pad-no-end (inr (inr e)) = omega arith
-
 lf-then-pad : (b : List ℕ) {e : List ℕ} → All Blank b → LineEnd e [] → (y : List ℕ) → b ++ e ≡ 10 ∷ 61 ∷ y → ⊥
-lf-then-pad [] hb crlf y z = let k : _≡_ {A = ℕ} 13 10 = head-eq-of-cons-eq z in omega arith
-lf-then-pad [] hb (cr h) y z = let k : _≡_ {A = ℕ} 13 10 = head-eq-of-cons-eq z in omega arith
-lf-then-pad [] hb lf y z = nil≢cons (tail-eq-of-cons-eq z)
+lf-then-pad [] {e} hb he y z = nil≢cons (end-lf he [] (append-nil e ∙ z))
 lf-then-pad (d ∷ b) hb he y z = blank-no-end (hb .0) (inr (head-eq-of-cons-eq z))
 
 no-split : {x : List ℕ} → LineTail x → x ≡ 61 ∷ 10 ∷ 61 ∷ 10 ∷ [] → ⊥
-no-split (LineTail.final zero b e hb he) z = pad-no-end (blanks-end-head b [] hb he (ap (λ (l : List ℕ). b ++ l) (append-nil e) ∙ z))
+no-split (LineTail.final zero b e hb he) z = printed-no-end 61 (lit≤ tt) (blanks-end-head b [] hb he (ap (λ (l : List ℕ). b ++ l) (append-nil e) ∙ z))
 no-split (LineTail.final (suc zero) b e hb he) z = lf-then-pad b hb he _ (tail-eq-of-cons-eq z)
 no-split (LineTail.final (suc (suc p)) b e hb he) z = let k : _≡_ {A = ℕ} 61 10 = head-eq-of-cons-eq (tail-eq-of-cons-eq z) in omega arith
-no-split (LineTail.more b e rest hb he) z = pad-no-end (blanks-end-head b rest hb he z)
+no-split (LineTail.more b e rest hb he) z = printed-no-end 61 (lit≤ tt) (blanks-end-head b rest hb he z)
 
-split-standard : Holds Standard (around (10 ∷ 90 ∷ 103 ∷ 61 ∷ 10 ∷ 61 ∷ 10 ∷ [])) refused
+split-standard : Holds Standard (around split-body) refused
 unfolding valueOf placeIn alphabet
-split-standard = unmet Standard Lax (closed _) (closed-shape Lax (10 ∷ 90 ∷ 103 ∷ 61 ∷ 10 ∷ 61 ∷ 10 ∷ []) split-pads)
+split-standard = unmet Standard Lax (closed _) (closed-shape Lax split-body split-lax-body)
     (λ s c. no-split (first-line (s .body) 90 (103 ∷ []) (61 ∷ 10 ∷ 61 ∷ 10 ∷ []) (lit< tt) (lit< tt, tt) pad-no-alphabet refl) refl)
 
 -- ---- labels that differ, a sixth hyphen, no text
@@ -351,7 +352,7 @@ behind-A g r h x e =
     let p1 = run-unique White (r .before) [] _ _ (s .before) tt no-white-hyphen no-white-hyphen
     (sym (text-then r []) ∙ ap (λ (t : List ℕ). t ++ []) (sym e)) in
     let p2 = label-unique (s .openingLabel) (capital 65 (omega arith)) _ _ (append-cancel-left begin _ _ (p1 .1)) in
-    (_, append-cancel-left (45 ∷ 45 ∷ 45 ∷ []) _ _ (p2 .1))
+    (_, append-cancel-left (drop 2 hyphens) _ _ (p2 .1))
 
 sixth-lax : Holds Lax (around (45 ∷ M-body)) refused
 sixth-lax label content m =
@@ -360,11 +361,55 @@ sixth-lax label content m =
     let k : _≡_ {A = ℕ} 45 10 = head-eq-of-cons-eq (tail-eq-of-cons-eq (p .1)) in
     omega arith
 
--- A first line of 65 characters, whatever follows.
-all-A : (n : ℕ) → All AlphabetChar (replicate n 65)
+-- ---- a label with a hyphen inside
+
+hyphen-label : Message Strict (beginAB ++ (M-body ++ (endAB ++ (10 ∷ [])))) (65 ∷ 45 ∷ 66 ∷ []) (102 ∷ [])
+unfolding valueOf placeIn alphabet characters padCount
+hyphen-label =
+    let label : Label (65 ∷ 45 ∷ 66 ∷ []) = Label.chars (LabelChars.separated {c = 65} (inr (omega arith)) (inl refl) (LabelChars.last {c = 66} (inr (omega arith)))) in
+    message Strict
+    record { before = []; openingLabel = 65 ∷ 45 ∷ 66 ∷ []; body = M-body; closingLabel = 65 ∷ 45 ∷ 66 ∷ []; after = 10 ∷ [] }
+    record { before = refl; openingLabel = label; body = M-strict-body; closingLabel = label; after = lf }
+    record { labels = refl; counts = inr (inl (refl, refl)); spare = refl }
+
+-- ---- full lines
+
+letter-A : AlphabetChar 65
 unfolding valueOf placeIn alphabet
+letter-A = lit< tt
+
+all-A : (n : ℕ) → All AlphabetChar (replicate n 65)
 all-A zero = tt
-all-A (suc n) = (lit< tt, all-A n)
+all-A (suc n) = (letter-A, all-A n)
+
+full-line : Holds Strict (around (10 ∷ (replicate 64 65 ++ M-body))) (accepted (replicate 48 0 ++ (102 ∷ [])))
+unfolding valueOf placeIn alphabet characters padCount
+full-line =
+    let body : List ℕ = 10 ∷ (replicate 64 65 ++ M-body) in
+    message Strict (closed body)
+    (closed-shape Strict body (StrictBody.strict (10 ∷ []) (replicate 64 65 ++ M-body) lf
+    (StrictLines.line (replicate 64 65) (10 ∷ []) (90 ∷ 103 ∷ 61 ∷ 61 ∷ 10 ∷ []) (all-A 64) refl lf M-line)))
+    record { labels = refl; counts = inr (inl (refl, refl)); spare = refl }
+
+fours : ℕ → List ℕ
+fours zero = []
+fours (suc n) = 65 ∷ 65 ∷ 65 ∷ 65 ∷ fours n
+
+groups-A : (n : ℕ) → Groups (suc n) (fours (suc n))
+unfolding fours
+groups-A zero = Groups.four letter-A letter-A letter-A letter-A
+groups-A (suc n) = Groups.more letter-A letter-A letter-A letter-A (groups-A n)
+
+full-last-line : Holds Strict (around (10 ∷ (replicate 64 65 ++ (10 ∷ [])))) (accepted (replicate 48 0))
+unfolding valueOf placeIn alphabet characters padCount fours
+full-last-line =
+    let body : List ℕ = 10 ∷ (replicate 64 65 ++ (10 ∷ [])) in
+    message Strict (closed body)
+    (closed-shape Strict body (StrictBody.strict (10 ∷ []) (replicate 64 65 ++ (10 ∷ [])) lf
+    (StrictLines.final 16 (replicate 64 65) (10 ∷ []) (groups-A 15) (lit≤ tt) lf)))
+    record { labels = refl; counts = inl (refl, refl); spare = refl }
+
+-- A first line of 65 characters, whatever follows.
 
 long-line : (y : List ℕ) → Holds Strict (beginA ++ (10 ∷ (replicate 65 65 ++ y))) refused
 long-line y label content m =
@@ -388,11 +433,11 @@ starred = (
           (
             lax-row (around (13 ∷ 10 ∷ [])) [] CRLF-lax (no-line (13 ∷ 10 ∷ []) crlf),
             (
-              refused-row (around (10 ∷ 90 ∷ 103 ∷ 61 ∷ 10 ∷ [])) Zg-lax,
+              refused-row (around Zg-body) Zg-lax,
               (
-                lax-row (around (10 ∷ 90 ∷ 109 ∷ 32 ∷ 57 ∷ 118 ∷ 10 ∷ [])) (102 ∷ 111 ∷ 111 ∷ []) Zm-lax Zm-standard,
+                lax-row (around Zm-body) (102 ∷ 111 ∷ 111 ∷ []) Zm-lax Zm-standard,
                 (
-                  lax-row (around (10 ∷ 90 ∷ 103 ∷ 61 ∷ 10 ∷ 61 ∷ 10 ∷ [])) (102 ∷ []) split-lax split-standard,
+                  lax-row (around split-body) (102 ∷ []) split-lax split-standard,
                   (
                     refused-row (beginA ++ (M-body ++ (endB ++ (10 ∷ [])))) B-lax,
                     (
@@ -476,6 +521,9 @@ none g = record { readings = []; joined = refl; shapes = tt; consistent = tt; ha
 pub samples : Samples
 samples = record {
   starred = starred;
+  hyphenLabel = hyphen-label;
+  fullLine = full-line;
+  fullLastLine = full-last-line;
   longLine = long-line;
   once = λ g. strict-bundle g once;
   twice = λ g. strict-bundle g twice;

@@ -38,6 +38,13 @@ endA = 45 ∷ 45 ∷ 45 ∷ 45 ∷ 45 ∷ 69 ∷ 78 ∷ 68 ∷ 32 ∷ 65 ∷ 45 
 abbrev pub endB : List ℕ
 endB = 45 ∷ 45 ∷ 45 ∷ 45 ∷ 45 ∷ 69 ∷ 78 ∷ 68 ∷ 32 ∷ 66 ∷ 45 ∷ 45 ∷ 45 ∷ 45 ∷ 45 ∷ []
 
+-- "-----BEGIN A-B-----" and "-----END A-B-----".
+abbrev pub beginAB : List ℕ
+beginAB = 45 ∷ 45 ∷ 45 ∷ 45 ∷ 45 ∷ 66 ∷ 69 ∷ 71 ∷ 73 ∷ 78 ∷ 32 ∷ 65 ∷ 45 ∷ 66 ∷ 45 ∷ 45 ∷ 45 ∷ 45 ∷ 45 ∷ []
+
+abbrev pub endAB : List ℕ
+endAB = 45 ∷ 45 ∷ 45 ∷ 45 ∷ 45 ∷ 69 ∷ 78 ∷ 68 ∷ 32 ∷ 65 ∷ 45 ∷ 66 ∷ 45 ∷ 45 ∷ 45 ∷ 45 ∷ 45 ∷ []
+
 -- M with something else between its boundaries.
 abbrev pub around : List ℕ → List ℕ
 around between = beginA ++ (between ++ (endA ++ (10 ∷ [])))
@@ -90,6 +97,11 @@ BundleRefused g text = (list : List Item) (table : List ℕ) → ¬ Bundle g tex
 pub record Samples : Type 0 where
   -- every row marked *
   pub starred : All RowHolds rows
+  -- a label with a hyphen inside
+  pub hyphenLabel : Message Strict (beginAB ++ (10 ∷ 90 ∷ 103 ∷ 61 ∷ 61 ∷ 10 ∷ (endAB ++ (10 ∷ [])))) (65 ∷ 45 ∷ 66 ∷ []) (102 ∷ [])
+  -- a line of 64 characters before a last line, and as the last line
+  pub fullLine : Holds Strict (around (10 ∷ (replicate 64 65 ++ (10 ∷ 90 ∷ 103 ∷ 61 ∷ 61 ∷ 10 ∷ [])))) (accepted (replicate 48 0 ++ (102 ∷ [])))
+  pub fullLastLine : Holds Strict (around (10 ∷ (replicate 64 65 ++ (10 ∷ [])))) (accepted (replicate 48 0))
   -- a first line of 65 characters, whatever follows it
   pub longLine : (rest : List ℕ) → Holds Strict (beginA ++ (10 ∷ (replicate 65 65 ++ rest))) refused
   -- M once and twice, under every grammar
