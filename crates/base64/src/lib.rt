@@ -1,7 +1,7 @@
 // Base 64 of RFC 4648, section 4: the alphabet, and groups of values and bytes in both directions.
 // The definitions that the contracts cite stand in specs/; each function is proved equal to its definition.
 ghost use mathlib.Core.Path.{_≡_};
-ghost use mathlib.Core.List.{List, [], _∷_};
+ghost use mathlib.Core.List.{[], _∷_};
 ghost use Prim.Native.Nat.{_*_, _/_};
 ghost use Rattle.base64.specs.Alphabet.{Sextet, alphabet, charOf, answerOf};
 ghost use Rattle.base64.specs.Groups.{toBytes, toValues, spareBits};
@@ -11,6 +11,15 @@ pub const PAD: u8 = b'=';
 
 // The characters for values 0 to 63.
 const ALPHABET: [u8; 64] = *b"ABCDEFGHIJKLMNOPQRSTUVWXYZabcdefghijklmnopqrstuvwxyz0123456789+/";
+
+// The values of `a`, `0`, `+` and `/`; that of `A` is 0.
+const LOWER_A: u8 = 26;
+
+const DIGIT_0: u8 = 52;
+
+const PLUS: u8 = 62;
+
+const SLASH: u8 = 63;
 
 // What a byte stands for in base 64 text.
 pub enum Value {
@@ -59,16 +68,16 @@ pub fn value_of(c: u8) -> Value
         return Value::Outside;
     }
     if c == b'+' {
-        return Value::Of(62);
+        return Value::Of(PLUS);
     }
     if c < b'/' {
         return Value::Outside;
     }
     if c == b'/' {
-        return Value::Of(63);
+        return Value::Of(SLASH);
     }
     if c <= b'9' {
-        return Value::Of(c - b'0' + 52);
+        return Value::Of(c - b'0' + DIGIT_0);
     }
     if c < b'A' {
         return Value::Outside;
@@ -80,7 +89,7 @@ pub fn value_of(c: u8) -> Value
         return Value::Outside;
     }
     if c <= b'z' {
-        return Value::Of(c - b'a' + 26);
+        return Value::Of(c - b'a' + LOWER_A);
     }
     Value::Outside
 }

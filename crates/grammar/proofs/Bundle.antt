@@ -11,8 +11,7 @@ use Rattle.grammar.specs.Bundle.{joinedText, Later, Shapes, Item, itemOf
 use Rattle.grammar.specs.declared.Grammar.{Grammar}
 use Rattle.grammar.specs.declared.Grammar.the-variants.{Lax, Standard, Strict}
 use Rattle.grammar.proofs.Runs.{Stop}
-use Rattle.grammar.proofs.Marks.{white-no-hyphen}
-use Rattle.grammar.proofs.Message.{Wider, strict-standard, standard-lax, shape-widens, consistent-widens, text-then, reading-then-unique}
+use Rattle.grammar.proofs.Message.{Wider, strict-standard, standard-lax, shape-widens, consistent-widens, no-white-hyphen, text-then, reading-then-unique}
 
 -- ---- widening
 
@@ -44,7 +43,7 @@ strict-bundle Strict b = b
 -- Behind a message stands nothing, or a hyphen.
 later-stop : (g : Grammar) (rs : List Reading) → All (Later g) rs → Stop White (joinedText rs)
 later-stop g [] h = tt
-later-stop g (r ∷ rs) h = rw (h .0 .noneBefore) (λ w. white-no-hyphen hyphen w refl)
+later-stop g (r ∷ rs) h = rw (h .0 .noneBefore) no-white-hyphen
 
 -- A message is not empty.
 pub text-some : (r : Reading) (x : List ℕ) → [] ≡ textOf r ++ x → ⊥

@@ -1,7 +1,7 @@
 // The three grammars of RFC 7468 text. Their meaning stands in specs/, as relations on the parts of a text; the theorems
 // about them stand in proofs/.
 ghost use mathlib.Core.Path.{_≡_};
-ghost use Prim.Native.Nat.{ℕ, _+_, _^_, _<_};
+ghost use Prim.Native.Nat.{_+_, _^_, _<_};
 ghost use lib.ListN.{length};
 ghost use Rattle.grammar.specs.Marks.{begin, end};
 ghost use Rattle.grammar.specs.Grammars.{grammarOf};
@@ -20,7 +20,7 @@ pub enum Numbered {
 }
 
 impl Grammar {
-    // The numbers that callers use.
+    // They are called by number.
     pub const LAX: u32 = 1;
 
     pub const STANDARD: u32 = 2;
