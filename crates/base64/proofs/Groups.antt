@@ -2,7 +2,7 @@
 use mathlib.Core.Path.{_≡_, refl, _∙_, ap}
 use mathlib.Core.Logic.{inl, inr}
 use mathlib.Core.List.{List, [], _∷_, _++_, map}
-use Prim.Native.Nat.{ℕ, suc, _+_, _*_, _/_, _%_, _≤_}
+use Prim.Native.Nat.{ℕ, _+_, _*_, _/_, _%_, _≤_}
 use native.Mathlib.Omega.{arith}
 use lib.ListN.{length, replicate, length-append, length-map, length-replicate}
 use Rattle.base64.specs.Lists.{All}
@@ -33,15 +33,11 @@ values-spare (x ∷ []) = omega arith
 values-spare (x ∷ y ∷ []) = omega arith
 values-spare (x ∷ y ∷ z ∷ r) = values-spare r
 
-counts-more : (n p : ℕ) → CountsFit n p → CountsFit (suc (suc (suc (suc n)))) p
-counts-more n p (inl h) = inl (omega arith)
-counts-more n p (inr (inl h)) = inr (inl (omega arith))
-counts-more n p (inr (inr h)) = inr (inr (omega arith))
-
-counts-less : (n p : ℕ) → CountsFit (suc (suc (suc (suc n)))) p → CountsFit n p
-counts-less n p (inl h) = inl (omega arith)
-counts-less n p (inr (inl h)) = inr (inl (omega arith))
-counts-less n p (inr (inr h)) = inr (inr (omega arith))
+-- Only the rest by four counts.
+pub counts-mod : (m n p : ℕ) → m % 4 ≡ n % 4 → CountsFit m p → CountsFit n p
+counts-mod m n p e (inl h) = inl (omega arith)
+counts-mod m n p e (inr (inl h)) = inr (inl (omega arith))
+counts-mod m n p e (inr (inr h)) = inr (inr (omega arith))
 
 -- Pads fill a group up.
 pub counts-pads : (n p : ℕ) → CountsFit n p → ((n + p) % 4 ≡ 0) × (p ≤ 2)
@@ -53,7 +49,7 @@ pub values-counts : (d : List ℕ) → CountsFit (length (toValues d)) (padsFor 
 values-counts [] = inl (refl, refl)
 values-counts (x ∷ []) = inr (inl (refl, refl))
 values-counts (x ∷ y ∷ []) = inr (inr (refl, refl))
-values-counts (x ∷ y ∷ z ∷ r) = counts-more (length (toValues r)) (padsFor r) (values-counts r)
+values-counts (x ∷ y ∷ z ∷ r) = counts-mod (length (toValues r)) _ (padsFor r) (omega arith) (values-counts r)
 
 -- ---- a group is one number of 24 bits, as three digits of eight bits and as four of six
 
@@ -112,7 +108,7 @@ values-bytes (a ∷ b ∷ c ∷ []) p h f s =
     let e : value3 (byte2 b c) 0 ≡ c = omega arith in
     (λ i. value1-back a b (h .1 .0) i ∷ value2-back a b c (h .1 .0) (h .1 .1 .0) i ∷ e i ∷ [], omega (arith, counts-pads 3 p f))
 values-bytes (a ∷ b ∷ c ∷ d ∷ r) p h f s =
-    let rest = values-bytes r p (h .1 .1 .1 .1) (counts-less (length r) p f) s in (
+    let rest = values-bytes r p (h .1 .1 .1 .1) (counts-mod (length (a ∷ b ∷ c ∷ d ∷ r)) (length r) p (omega arith) f) s in (
       λ i. value1-back a b (h .1 .0) i ∷ value2-back a b c (h .1 .0) (h .1 .1 .0) i ∷ value3-back b c d (h .1 .1 .0) (h .1 .1 .1 .0) i
           ∷ value4-back c d (h .1 .1 .1 .0) i ∷ rest .0 i,
       rest .1,

@@ -3,5 +3,6 @@ pub mod Runs
 pub mod Marks
 pub mod Grammars
 pub mod Message
+pub mod Counts
 pub mod Bundle
 pub mod Samples
