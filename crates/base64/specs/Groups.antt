@@ -61,7 +61,7 @@ spareBits (a ∷ b ∷ c ∷ []) = c % 4
 spareBits (a ∷ b ∷ c ∷ d ∷ r) = spareBits r
 
 -- So many characters and pads make whole groups: the last group has no pad, or two characters and two pads, or three
--- characters and one pad. (The paper: n and p fit.)
+-- characters and one pad. (The requirements: n and p fit.)
 abbrev pub CountsFit : ℕ → ℕ → Type 0
 CountsFit n p = ((n % 4 ≡ 0) × (p ≡ 0)) ⊎ (((n % 4 ≡ 2) × (p ≡ 2)) ⊎ ((n % 4 ≡ 3) × (p ≡ 1)))
 

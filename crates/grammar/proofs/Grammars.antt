@@ -1,4 +1,5 @@
--- The bodies: a strict body is a standard body, a standard body is a lax body, and no body holds a hyphen. Assumes nothing.
+-- The bodies: a strict body is a standard body, a standard body is a lax body, and no body holds a hyphen. One line end is no
+-- standard body, and no line of a strict body is over 64 characters. Assumes nothing.
 use mathlib.Core.Path.{_≡_, refl, sym, _∙_, subst, ap}
 use mathlib.Core.Logic.{_≢_, inl, inr}
 use mathlib.Core.List.{List, [], _∷_, _++_, append-assoc, append-nil, head-eq-of-cons-eq, tail-eq-of-cons-eq, cons≢nil}

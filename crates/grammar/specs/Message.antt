@@ -12,7 +12,7 @@ use Rattle.grammar.specs.Grammars.{Before, Body, After}
 use Rattle.grammar.specs.declared.Grammar.{Grammar}
 use Rattle.grammar.specs.declared.Grammar.the-variants.{Lax, Standard, Strict}
 
--- The parts of a message, in their order, without the fixed bytes of the boundaries. (The paper's reading.)
+-- The parts of a message, in their order, without the fixed bytes of the boundaries. (Reading is the requirements' term.)
 pub record Reading : Type 0 where
   pub before : List ℕ
   pub openingLabel : List ℕ

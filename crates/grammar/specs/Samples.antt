@@ -1,5 +1,5 @@
--- The counter samples of the requirements: the rows marked *, and the bundles of the paragraph below them. Each text is
--- spelled out in bytes. The numbers and places of refusals are the reader's and stand with it. Assumes nothing.
+-- The counter samples of the requirements: the rows marked *, and texts of the paragraph and of the habits below them. Each
+-- is spelled out in bytes. The numbers and places of refusals are the reader's and will stand with it. Assumes nothing.
 use mathlib.Core.List.{List, [], _∷_, _++_}
 use Prim.Native.Nat.{ℕ}
 use lib.ListN.{replicate}

@@ -43,10 +43,10 @@ impl Grammar {
 // An offset in a text: the number of bytes before it. It is no count of decoded bytes (`base64::ByteCount`).
 pub struct TextOffset(pub usize);
 
-// The bytes of the boundaries before their labels.
-pub const BEGIN: [u8; 11] = *b"-----BEGIN ";
+// How many bytes of a boundary stand before its label, "-----BEGIN " and "-----END ".
+const BEGIN_LENGTH: usize = 11;
 
-pub const END: [u8; 9] = *b"-----END ";
+const END_LENGTH: usize = 9;
 
 impl TextOffset {
     // Where the label starts of the opening boundary that starts here.
@@ -54,7 +54,7 @@ impl TextOffset {
         requires { ⌜ self .0 + length begin < 2 ^ 64 ⌝ }
         ensures { λ r. ⌜ r .0 ≡ self .0 + length begin ⌝ }
     {
-        TextOffset(self.0 + BEGIN.len())
+        TextOffset(self.0 + BEGIN_LENGTH)
     }
 
     // Where the label starts of the closing boundary that starts here.
@@ -62,6 +62,6 @@ impl TextOffset {
         requires { ⌜ self .0 + length end < 2 ^ 64 ⌝ }
         ensures { λ r. ⌜ r .0 ≡ self .0 + length end ⌝ }
     {
-        TextOffset(self.0 + END.len())
+        TextOffset(self.0 + END_LENGTH)
     }
 }
