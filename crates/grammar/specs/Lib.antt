@@ -3,4 +3,5 @@ pub mod Marks
 pub mod Grammars
 pub mod Message
 pub mod Bundle
+pub mod Starts
 pub mod Samples

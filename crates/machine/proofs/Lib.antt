@@ -1,0 +1,16 @@
+-- What the machine accepts, in terms of the grammars' relations. Assumes nothing.
+pub mod Bytes
+pub mod Parts
+pub mod Runs
+pub mod Bodies
+pub mod LineEnds
+pub mod LineEnds5
+pub mod Rows
+pub mod Lax
+pub mod Standard
+pub mod Strict
+pub mod Labels
+pub mod Boundaries
+pub mod Messages
+pub mod Acceptance
+pub mod Starts

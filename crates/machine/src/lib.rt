@@ -1,0 +1,894 @@
+// The machine that reads RFC 7468 text of one of the three grammars, a byte at a time. It takes each byte by its kind, so
+// that a phase has a handful of ways on. Its meaning stands in specs/, as definitions; that it accepts exactly the texts of
+// the grammars' relations is proved in proofs/.
+ghost use mathlib.Core.Path.{_≡_};
+ghost use lib.ListN.{length, getD};
+ghost use Rattle.machine.specs.Kinds.{kindOf, otherKind};
+ghost use Rattle.machine.specs.Machine.{wordOf, wordStep, labelRow, labelTarget, lineEnd, lineChar, linePad, laxRow, standardRow, strictRow, target, behind, labelled, beforeStep, next, step, start, accepting, strictAccepting, isAfter, dead, bytePart, boundaryPart, laxPart, standardPart, strictPart, partOf};
+use base64::PAD;
+use base64::Value;
+use base64::value_of;
+use grammar::Grammar;
+
+// The kinds of byte that the grammars tell apart.
+pub enum Kind {
+    Tab,
+    Space,
+    Cr,
+    Lf,
+    // VT or FF.
+    Feed,
+    Hyphen,
+    Alphabet,
+    Pad,
+    // Another character of labels.
+    Mark,
+    Other,
+}
+
+// The opening or the closing boundary.
+pub enum Boundary {
+    Opening,
+    Closing,
+}
+
+// What has been read of a label and of the five hyphens behind it.
+pub enum LabelPhase {
+    // Nothing.
+    Start,
+    // A character last.
+    Char,
+    // A character and a space.
+    Space,
+    // A character and a hyphen, which is the label's or the first of the five.
+    Hyphen,
+    // So many of the five hyphens.
+    One,
+    Two,
+    Three,
+    Four,
+}
+
+// What has been read of a lax message behind its opening.
+pub enum LaxPhase {
+    // White and alphabet characters.
+    Data,
+    // A pad, and white.
+    OnePad,
+    // Two pads, and white.
+    TwoPads,
+    // The closing, and white.
+    Closed,
+}
+
+// What has been read of a standard message behind its opening.
+pub enum StandardPhase {
+    // Blanks.
+    Opened,
+    // The opening's line end, then blanks and line ends, the last of them a blank or the opening's own line end.
+    Leading,
+    // The same, but a further line end last: it may be that of an empty final line.
+    BlankLine,
+    // Alphabet characters of a line.
+    Data,
+    // Alphabet characters of a line, then blanks.
+    Trailing,
+    // A line of alphabet characters with its line end: it may be the final line.
+    Line,
+    // The first pad.
+    OnePad,
+    // Both pads, or blanks of the final line.
+    Ending,
+    // The final line.
+    Final,
+    // The closing, and blanks.
+    Closed,
+    // The line end behind the closing.
+    Ended,
+}
+
+// What has been read of a strict message behind its opening.
+pub enum StrictPhase {
+    // Nothing.
+    Opened,
+    // The opening's line end.
+    First,
+    // A line of 64 characters with its line end: it may be the final line.
+    Line,
+    // One or more characters of a line, which has room for so many more.
+    Data(u8),
+    // The first of two pads.
+    OnePad,
+    // The last pad.
+    Padded,
+    // The final line.
+    Final,
+    // The closing.
+    Closed,
+    // The line end behind the closing.
+    Ended,
+}
+
+// What has been read of a message.
+pub enum Phase {
+    // White before the opening, under lax.
+    Before,
+    // So many bytes of "-----BEGIN " or "-----END ".
+    Word(Boundary, u8),
+    Label(Boundary, LabelPhase),
+    Lax(LaxPhase),
+    Standard(StandardPhase),
+    Strict(StrictPhase),
+    // What no text of the grammar starts with.
+    Dead,
+}
+
+// The machine between two bytes.
+pub struct State {
+    pub phase: Phase,
+    // CR was read last.
+    pub cr: bool,
+}
+
+// The part of a message that the bytes read last belong to.
+pub enum Part {
+    Before,
+    Opening,
+    Body,
+    Closing,
+    After,
+}
+
+// Where a label goes on.
+pub enum LabelTarget {
+    To(LabelPhase),
+    // Its fifth hyphen has been read.
+    Whole,
+    Refused,
+}
+
+// Where a label goes on from one phase, by the kind of the next byte.
+pub struct LabelRow {
+    pub hyphen: LabelTarget,
+    pub space: LabelTarget,
+    pub char: LabelTarget,
+}
+
+// Where the machine goes from one phase behind the opening, by the kind of the next byte.
+pub struct Row {
+    pub blank: Phase,
+    pub feed: Phase,
+    pub end: Phase,
+    pub alphabet: Phase,
+    pub pad: Phase,
+    pub hyphen: Phase,
+}
+
+// The marks.
+const HT: u8 = b'\t';
+
+const LF: u8 = b'\n';
+
+const VT: u8 = 11;
+
+const FF: u8 = 12;
+
+const CR: u8 = b'\r';
+
+const SP: u8 = b' ';
+
+const HYPHEN: u8 = b'-';
+
+// The first and the last character of labels, the hyphen between them aside.
+const FIRST_MARK: u8 = b'!';
+
+const LAST_MARK: u8 = b'~';
+
+const BEGIN: [u8; 11] = *b"-----BEGIN ";
+
+const END: [u8; 9] = *b"-----END ";
+
+// How many characters a strict line has room for behind its first.
+const LINE_ROOM: u8 = 63;
+
+// The kind of a byte that is no blank, line end, VT, FF, hyphen or pad.
+fn other_kind(b: u8) -> Kind
+    ensures { λ r. ⌜ r ≡ otherKind b ⌝ }
+{
+    let value = value_of(b);
+    match value {
+        Value::Of(_) => Kind::Alphabet,
+        Value::Outside => {
+            if b < FIRST_MARK {
+                return Kind::Other;
+            }
+            if LAST_MARK < b {
+                return Kind::Other;
+            }
+            Kind::Mark
+        }
+    }
+}
+
+// The kind of a byte.
+pub fn kind_of(b: u8) -> Kind
+    ensures { λ r. ⌜ r ≡ kindOf b ⌝ }
+{
+    match b {
+        HT => Kind::Tab,
+        LF => Kind::Lf,
+        VT => Kind::Feed,
+        FF => Kind::Feed,
+        CR => Kind::Cr,
+        SP => Kind::Space,
+        HYPHEN => Kind::Hyphen,
+        PAD => Kind::Pad,
+        _ => other_kind(b),
+    }
+}
+
+// How long "-----BEGIN " or "-----END " is.
+fn word_length(boundary: Boundary) -> u8
+    ensures { λ r. ⌜ r ≡ length (wordOf boundary) ⌝ }
+{
+    match boundary {
+        Boundary::Opening => 11,
+        Boundary::Closing => 9,
+    }
+}
+
+// A byte of "-----BEGIN " or "-----END "; 0 behind their end.
+fn word_byte(boundary: Boundary, at: u8) -> u8
+    ensures { λ r. ⌜ r ≡ getD (wordOf boundary) at 0 ⌝ }
+{
+    match boundary {
+        Boundary::Opening => {
+            if at < 11 {
+                return BEGIN[at as usize];
+            }
+            0
+        }
+        Boundary::Closing => {
+            if at < 9 {
+                return END[at as usize];
+            }
+            0
+        }
+    }
+}
+
+// A byte behind so many of "-----BEGIN " or "-----END ".
+fn word_step(boundary: Boundary, read: u8, b: u8) -> Phase
+    ensures { λ r. ⌜ r ≡ wordStep boundary read b ⌝ }
+{
+    let length = word_length(boundary);
+    if length <= read {
+        return Phase::Dead;
+    }
+    let expected = word_byte(boundary, read);
+    if b != expected {
+        return Phase::Dead;
+    }
+    if read + 1 < length {
+        Phase::Word(boundary, read + 1)
+    } else {
+        Phase::Label(boundary, LabelPhase::Start)
+    }
+}
+
+// The ways on in a label.
+fn label_row(phase: LabelPhase) -> LabelRow
+    ensures { λ r. ⌜ r ≡ labelRow phase ⌝ }
+{
+    let refused = LabelTarget::Refused;
+    match phase {
+        LabelPhase::Start => LabelRow {
+            hyphen: LabelTarget::To(LabelPhase::One),
+            space: refused,
+            char: LabelTarget::To(LabelPhase::Char),
+        },
+        LabelPhase::Char => LabelRow {
+            hyphen: LabelTarget::To(LabelPhase::Hyphen),
+            space: LabelTarget::To(LabelPhase::Space),
+            char: LabelTarget::To(LabelPhase::Char),
+        },
+        LabelPhase::Space => LabelRow {
+            hyphen: refused,
+            space: refused,
+            char: LabelTarget::To(LabelPhase::Char),
+        },
+        LabelPhase::Hyphen => LabelRow {
+            hyphen: LabelTarget::To(LabelPhase::Two),
+            space: refused,
+            char: LabelTarget::To(LabelPhase::Char),
+        },
+        LabelPhase::One => LabelRow {
+            hyphen: LabelTarget::To(LabelPhase::Two),
+            space: refused,
+            char: refused,
+        },
+        LabelPhase::Two => LabelRow {
+            hyphen: LabelTarget::To(LabelPhase::Three),
+            space: refused,
+            char: refused,
+        },
+        LabelPhase::Three => LabelRow {
+            hyphen: LabelTarget::To(LabelPhase::Four),
+            space: refused,
+            char: refused,
+        },
+        LabelPhase::Four => LabelRow {
+            hyphen: LabelTarget::Whole,
+            space: refused,
+            char: refused,
+        },
+    }
+}
+
+// The way on that a kind of byte takes.
+fn label_target(row: LabelRow, kind: Kind) -> LabelTarget
+    ensures { λ r. ⌜ r ≡ labelTarget row kind ⌝ }
+{
+    match kind {
+        Kind::Tab => LabelTarget::Refused,
+        Kind::Space => row.space,
+        Kind::Cr => LabelTarget::Refused,
+        Kind::Lf => LabelTarget::Refused,
+        Kind::Feed => LabelTarget::Refused,
+        Kind::Hyphen => row.hyphen,
+        Kind::Alphabet => row.char,
+        Kind::Pad => row.char,
+        Kind::Mark => row.char,
+        Kind::Other => LabelTarget::Refused,
+    }
+}
+
+// The phase right behind a boundary.
+fn behind_boundary(grammar: Grammar, boundary: Boundary) -> Phase
+    ensures { λ r. ⌜ r ≡ behind grammar boundary ⌝ }
+{
+    match boundary {
+        Boundary::Opening => match grammar {
+            Grammar::Lax => Phase::Lax(LaxPhase::Data),
+            Grammar::Standard => Phase::Standard(StandardPhase::Opened),
+            Grammar::Strict => Phase::Strict(StrictPhase::Opened),
+        },
+        Boundary::Closing => match grammar {
+            Grammar::Lax => Phase::Lax(LaxPhase::Closed),
+            Grammar::Standard => Phase::Standard(StandardPhase::Closed),
+            Grammar::Strict => Phase::Strict(StrictPhase::Closed),
+        },
+    }
+}
+
+// The phase that a label goes on to.
+fn label_phase(grammar: Grammar, boundary: Boundary, to: LabelTarget) -> Phase
+    ensures { λ r. ⌜ r ≡ labelled grammar boundary to ⌝ }
+{
+    match to {
+        LabelTarget::To(phase) => Phase::Label(boundary, phase),
+        LabelTarget::Whole => behind_boundary(grammar, boundary),
+        LabelTarget::Refused => Phase::Dead,
+    }
+}
+
+// A line end behind characters of a strict line that has room for so many more: that of a full line, or of the final line
+// where the last group is whole.
+fn line_end(room: u8) -> Phase
+    ensures { λ r. ⌜ r ≡ lineEnd room ⌝ }
+{
+    if room == 0 {
+        return Phase::Strict(StrictPhase::Line);
+    }
+    if room % 4 == 0 {
+        return Phase::Strict(StrictPhase::Final);
+    }
+    Phase::Dead
+}
+
+// A character more.
+fn line_char(room: u8) -> Phase
+    ensures { λ r. ⌜ r ≡ lineChar room ⌝ }
+{
+    if room == 0 {
+        return Phase::Dead;
+    }
+    Phase::Strict(StrictPhase::Data(room - 1))
+}
+
+// A pad behind three or two characters of a group.
+fn line_pad(room: u8) -> Phase
+    ensures { λ r. ⌜ r ≡ linePad room ⌝ }
+{
+    if room % 4 == 1 {
+        return Phase::Strict(StrictPhase::Padded);
+    }
+    if room % 4 == 2 {
+        return Phase::Strict(StrictPhase::OnePad);
+    }
+    Phase::Dead
+}
+
+// The ways on under lax.
+fn lax_row(phase: LaxPhase) -> Row
+    ensures { λ r. ⌜ r ≡ laxRow phase ⌝ }
+{
+    let dead = Phase::Dead;
+    match phase {
+        LaxPhase::Data => {
+            let data = Phase::Lax(LaxPhase::Data);
+            Row {
+                blank: data,
+                feed: data,
+                end: data,
+                alphabet: data,
+                pad: Phase::Lax(LaxPhase::OnePad),
+                hyphen: Phase::Word(Boundary::Closing, 1),
+            }
+        }
+        LaxPhase::OnePad => {
+            let one_pad = Phase::Lax(LaxPhase::OnePad);
+            Row {
+                blank: one_pad,
+                feed: one_pad,
+                end: one_pad,
+                alphabet: dead,
+                pad: Phase::Lax(LaxPhase::TwoPads),
+                hyphen: Phase::Word(Boundary::Closing, 1),
+            }
+        }
+        LaxPhase::TwoPads => {
+            let two_pads = Phase::Lax(LaxPhase::TwoPads);
+            Row {
+                blank: two_pads,
+                feed: two_pads,
+                end: two_pads,
+                alphabet: dead,
+                pad: dead,
+                hyphen: Phase::Word(Boundary::Closing, 1),
+            }
+        }
+        LaxPhase::Closed => {
+            let closed = Phase::Lax(LaxPhase::Closed);
+            Row {
+                blank: closed,
+                feed: closed,
+                end: closed,
+                alphabet: dead,
+                pad: dead,
+                hyphen: dead,
+            }
+        }
+    }
+}
+
+// The ways on under standard.
+fn standard_row(phase: StandardPhase) -> Row
+    ensures { λ r. ⌜ r ≡ standardRow phase ⌝ }
+{
+    let dead = Phase::Dead;
+    match phase {
+        StandardPhase::Opened => Row {
+            blank: Phase::Standard(StandardPhase::Opened),
+            feed: dead,
+            end: Phase::Standard(StandardPhase::Leading),
+            alphabet: dead,
+            pad: dead,
+            hyphen: dead,
+        },
+        StandardPhase::Leading => Row {
+            blank: Phase::Standard(StandardPhase::Leading),
+            feed: dead,
+            end: Phase::Standard(StandardPhase::BlankLine),
+            alphabet: Phase::Standard(StandardPhase::Data),
+            pad: Phase::Standard(StandardPhase::OnePad),
+            hyphen: dead,
+        },
+        StandardPhase::BlankLine => Row {
+            blank: Phase::Standard(StandardPhase::Leading),
+            feed: dead,
+            end: Phase::Standard(StandardPhase::BlankLine),
+            alphabet: Phase::Standard(StandardPhase::Data),
+            pad: Phase::Standard(StandardPhase::OnePad),
+            hyphen: Phase::Word(Boundary::Closing, 1),
+        },
+        StandardPhase::Data => Row {
+            blank: Phase::Standard(StandardPhase::Trailing),
+            feed: dead,
+            end: Phase::Standard(StandardPhase::Line),
+            alphabet: Phase::Standard(StandardPhase::Data),
+            pad: Phase::Standard(StandardPhase::OnePad),
+            hyphen: dead,
+        },
+        StandardPhase::Trailing => Row {
+            blank: Phase::Standard(StandardPhase::Trailing),
+            feed: dead,
+            end: Phase::Standard(StandardPhase::Line),
+            alphabet: dead,
+            pad: dead,
+            hyphen: dead,
+        },
+        StandardPhase::Line => Row {
+            blank: Phase::Standard(StandardPhase::Ending),
+            feed: dead,
+            end: Phase::Standard(StandardPhase::Final),
+            alphabet: Phase::Standard(StandardPhase::Data),
+            pad: Phase::Standard(StandardPhase::OnePad),
+            hyphen: Phase::Word(Boundary::Closing, 1),
+        },
+        StandardPhase::OnePad => Row {
+            blank: Phase::Standard(StandardPhase::Ending),
+            feed: dead,
+            end: Phase::Standard(StandardPhase::Final),
+            alphabet: dead,
+            pad: Phase::Standard(StandardPhase::Ending),
+            hyphen: dead,
+        },
+        StandardPhase::Ending => Row {
+            blank: Phase::Standard(StandardPhase::Ending),
+            feed: dead,
+            end: Phase::Standard(StandardPhase::Final),
+            alphabet: dead,
+            pad: dead,
+            hyphen: dead,
+        },
+        StandardPhase::Final => Row {
+            blank: dead,
+            feed: dead,
+            end: dead,
+            alphabet: dead,
+            pad: dead,
+            hyphen: Phase::Word(Boundary::Closing, 1),
+        },
+        StandardPhase::Closed => Row {
+            blank: Phase::Standard(StandardPhase::Closed),
+            feed: dead,
+            end: Phase::Standard(StandardPhase::Ended),
+            alphabet: dead,
+            pad: dead,
+            hyphen: dead,
+        },
+        StandardPhase::Ended => Row {
+            blank: dead,
+            feed: dead,
+            end: dead,
+            alphabet: dead,
+            pad: dead,
+            hyphen: dead,
+        },
+    }
+}
+
+// The ways on under strict.
+fn strict_row(phase: StrictPhase) -> Row
+    ensures { λ r. ⌜ r ≡ strictRow phase ⌝ }
+{
+    let dead = Phase::Dead;
+    match phase {
+        StrictPhase::Opened => Row {
+            blank: dead,
+            feed: dead,
+            end: Phase::Strict(StrictPhase::First),
+            alphabet: dead,
+            pad: dead,
+            hyphen: dead,
+        },
+        StrictPhase::First => Row {
+            blank: dead,
+            feed: dead,
+            end: dead,
+            alphabet: Phase::Strict(StrictPhase::Data(LINE_ROOM)),
+            pad: dead,
+            hyphen: dead,
+        },
+        StrictPhase::Line => Row {
+            blank: dead,
+            feed: dead,
+            end: dead,
+            alphabet: Phase::Strict(StrictPhase::Data(LINE_ROOM)),
+            pad: dead,
+            hyphen: Phase::Word(Boundary::Closing, 1),
+        },
+        StrictPhase::Data(room) => {
+            let end = line_end(room);
+            let alphabet = line_char(room);
+            let pad = line_pad(room);
+            Row {
+                blank: dead,
+                feed: dead,
+                end,
+                alphabet,
+                pad,
+                hyphen: dead,
+            }
+        }
+        StrictPhase::OnePad => Row {
+            blank: dead,
+            feed: dead,
+            end: dead,
+            alphabet: dead,
+            pad: Phase::Strict(StrictPhase::Padded),
+            hyphen: dead,
+        },
+        StrictPhase::Padded => Row {
+            blank: dead,
+            feed: dead,
+            end: Phase::Strict(StrictPhase::Final),
+            alphabet: dead,
+            pad: dead,
+            hyphen: dead,
+        },
+        StrictPhase::Final => Row {
+            blank: dead,
+            feed: dead,
+            end: dead,
+            alphabet: dead,
+            pad: dead,
+            hyphen: Phase::Word(Boundary::Closing, 1),
+        },
+        StrictPhase::Closed => Row {
+            blank: dead,
+            feed: dead,
+            end: Phase::Strict(StrictPhase::Ended),
+            alphabet: dead,
+            pad: dead,
+            hyphen: dead,
+        },
+        StrictPhase::Ended => Row {
+            blank: dead,
+            feed: dead,
+            end: dead,
+            alphabet: dead,
+            pad: dead,
+            hyphen: dead,
+        },
+    }
+}
+// The way on that a kind of byte takes.
+fn row_target(row: Row, kind: Kind) -> Phase
+    ensures { λ r. ⌜ r ≡ target row kind ⌝ }
+{
+    match kind {
+        Kind::Tab => row.blank,
+        Kind::Space => row.blank,
+        Kind::Cr => row.end,
+        Kind::Lf => row.end,
+        Kind::Feed => row.feed,
+        Kind::Hyphen => row.hyphen,
+        Kind::Alphabet => row.alphabet,
+        Kind::Pad => row.pad,
+        Kind::Mark => Phase::Dead,
+        Kind::Other => Phase::Dead,
+    }
+}
+
+// Before the opening, under lax.
+fn before_step(kind: Kind) -> Phase
+    ensures { λ r. ⌜ r ≡ beforeStep kind ⌝ }
+{
+    match kind {
+        Kind::Tab => Phase::Before,
+        Kind::Space => Phase::Before,
+        Kind::Cr => Phase::Before,
+        Kind::Lf => Phase::Before,
+        Kind::Feed => Phase::Before,
+        Kind::Hyphen => Phase::Word(Boundary::Opening, 1),
+        Kind::Alphabet => Phase::Dead,
+        Kind::Pad => Phase::Dead,
+        Kind::Mark => Phase::Dead,
+        Kind::Other => Phase::Dead,
+    }
+}
+
+// The phase behind the next byte.
+fn next_phase(grammar: Grammar, phase: Phase, b: u8) -> Phase
+    ensures { λ r. ⌜ r ≡ next grammar phase b ⌝ }
+{
+    match phase {
+        Phase::Before => before_step(kind_of(b)),
+        Phase::Word(boundary, read) => word_step(boundary, read, b),
+        Phase::Label(boundary, label) => label_phase(
+            grammar,
+            boundary,
+            label_target(label_row(label), kind_of(b)),
+        ),
+        Phase::Lax(lax) => row_target(lax_row(lax), kind_of(b)),
+        Phase::Standard(standard) => row_target(standard_row(standard), kind_of(b)),
+        Phase::Strict(strict) => row_target(strict_row(strict), kind_of(b)),
+        Phase::Dead => Phase::Dead,
+    }
+}
+
+impl State {
+    // Where a message starts, the first of a bundle or a single one.
+    pub fn start(grammar: Grammar) -> State
+        ensures { λ r. ⌜ r ≡ start grammar ⌝ }
+    {
+        match grammar {
+            Grammar::Lax => State {
+                phase: Phase::Before,
+                cr: false,
+            },
+            Grammar::Standard => State {
+                phase: Phase::Word(Boundary::Opening, 0),
+                cr: false,
+            },
+            Grammar::Strict => State {
+                phase: Phase::Word(Boundary::Opening, 0),
+                cr: false,
+            },
+        }
+    }
+
+    // The machine behind the next byte. LF behind CR is of the same line end and moves nothing.
+    pub fn step(self, grammar: Grammar, b: u8) -> State
+        ensures { λ r. ⌜ r ≡ step grammar self b ⌝ }
+    {
+        let phase = self.phase;
+        if self.cr {
+            if b == LF {
+                return State { phase, cr: false };
+            }
+        }
+        State {
+            phase: next_phase(grammar, phase, b),
+            cr: b == CR,
+        }
+    }
+}
+
+// The part that a boundary is.
+fn boundary_part(boundary: Boundary) -> Part
+    ensures { λ r. ⌜ r ≡ boundaryPart boundary ⌝ }
+{
+    match boundary {
+        Boundary::Opening => Part::Opening,
+        Boundary::Closing => Part::Closing,
+    }
+}
+
+fn lax_part(phase: LaxPhase) -> Part
+    ensures { λ r. ⌜ r ≡ laxPart phase ⌝ }
+{
+    match phase {
+        LaxPhase::Data => Part::Body,
+        LaxPhase::OnePad => Part::Body,
+        LaxPhase::TwoPads => Part::Body,
+        LaxPhase::Closed => Part::After,
+    }
+}
+
+fn standard_part(phase: StandardPhase) -> Part
+    ensures { λ r. ⌜ r ≡ standardPart phase ⌝ }
+{
+    match phase {
+        StandardPhase::Opened => Part::Body,
+        StandardPhase::Leading => Part::Body,
+        StandardPhase::BlankLine => Part::Body,
+        StandardPhase::Data => Part::Body,
+        StandardPhase::Trailing => Part::Body,
+        StandardPhase::Line => Part::Body,
+        StandardPhase::OnePad => Part::Body,
+        StandardPhase::Ending => Part::Body,
+        StandardPhase::Final => Part::Body,
+        StandardPhase::Closed => Part::After,
+        StandardPhase::Ended => Part::After,
+    }
+}
+
+fn strict_part(phase: StrictPhase) -> Part
+    ensures { λ r. ⌜ r ≡ strictPart phase ⌝ }
+{
+    match phase {
+        StrictPhase::Opened => Part::Body,
+        StrictPhase::First => Part::Body,
+        StrictPhase::Line => Part::Body,
+        StrictPhase::Data(_) => Part::Body,
+        StrictPhase::OnePad => Part::Body,
+        StrictPhase::Padded => Part::Body,
+        StrictPhase::Final => Part::Body,
+        StrictPhase::Closed => Part::After,
+        StrictPhase::Ended => Part::After,
+    }
+}
+
+// The part of a message that a phase is in; a dead phase is in none, and counts as behind the message.
+pub fn part_of(phase: Phase) -> Part
+    ensures { λ r. ⌜ r ≡ partOf phase ⌝ }
+{
+    match phase {
+        Phase::Before => Part::Before,
+        Phase::Word(boundary, _) => boundary_part(boundary),
+        Phase::Label(boundary, _) => boundary_part(boundary),
+        Phase::Lax(lax) => lax_part(lax),
+        Phase::Standard(standard) => standard_part(standard),
+        Phase::Strict(strict) => strict_part(strict),
+        Phase::Dead => Part::After,
+    }
+}
+
+// Whether no text of the grammar starts with what has been read.
+pub fn is_dead(phase: Phase) -> bool
+    ensures { λ r. ⌜ r ≡ dead phase ⌝ }
+{
+    match phase {
+        Phase::Before => false,
+        Phase::Word(_, _) => false,
+        Phase::Label(_, _) => false,
+        Phase::Lax(_) => false,
+        Phase::Standard(_) => false,
+        Phase::Strict(_) => false,
+        Phase::Dead => true,
+    }
+}
+
+// Whether a strict message, which has to end in a line end, is whole.
+fn strict_accepting(phase: StrictPhase) -> bool
+    ensures { λ r. ⌜ r ≡ strictAccepting phase ⌝ }
+{
+    match phase {
+        StrictPhase::Opened => false,
+        StrictPhase::First => false,
+        StrictPhase::Line => false,
+        StrictPhase::Data(_) => false,
+        StrictPhase::OnePad => false,
+        StrictPhase::Padded => false,
+        StrictPhase::Final => false,
+        StrictPhase::Closed => false,
+        StrictPhase::Ended => true,
+    }
+}
+
+// Whether a part is behind the closing.
+fn is_after(part: Part) -> bool
+    ensures { λ r. ⌜ r ≡ isAfter part ⌝ }
+{
+    match part {
+        Part::Before => false,
+        Part::Opening => false,
+        Part::Body => false,
+        Part::Closing => false,
+        Part::After => true,
+    }
+}
+
+// Whether what has been read is a text of the grammar.
+pub fn is_accepting(phase: Phase) -> bool
+    ensures { λ r. ⌜ r ≡ accepting phase ⌝ }
+{
+    match phase {
+        Phase::Before => false,
+        Phase::Word(_, _) => false,
+        Phase::Label(_, _) => false,
+        Phase::Lax(lax) => is_after(lax_part(lax)),
+        Phase::Standard(standard) => is_after(standard_part(standard)),
+        Phase::Strict(strict) => strict_accepting(strict),
+        Phase::Dead => false,
+    }
+}
+
+// The part that a byte belongs to, which took the machine from one part to another: the first hyphen of a boundary is the
+// boundary's, and so is its last.
+pub fn byte_part(from: Part, to: Part) -> Part
+    ensures { λ r. ⌜ r ≡ bytePart from to ⌝ }
+{
+    match from {
+        Part::Before => match to {
+            Part::Before => Part::Before,
+            Part::Opening => Part::Opening,
+            Part::Body => Part::Opening,
+            Part::Closing => Part::Opening,
+            Part::After => Part::Opening,
+        },
+        Part::Opening => Part::Opening,
+        Part::Body => match to {
+            Part::Before => Part::Closing,
+            Part::Opening => Part::Closing,
+            Part::Body => Part::Body,
+            Part::Closing => Part::Closing,
+            Part::After => Part::Closing,
+        },
+        Part::Closing => Part::Closing,
+        Part::After => Part::After,
+    }
+}
