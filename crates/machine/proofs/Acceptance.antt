@@ -1,23 +1,21 @@
 -- The machine accepts exactly the texts of the grammar, and lives exactly on their starts. Assumes nothing.
-use mathlib.Core.Path.{_≡_, refl, sym, ap, _∙_, subst}
+use mathlib.Core.Path.{_≡_, refl, sym, ap, _∙_}
 use mathlib.Core.Logic.{_⊎_, inl, inr, _≢_}
-use mathlib.Core.Bool.{Bool, true, false, cond, true≢false}
+use mathlib.Core.Bool.{Bool, true, false, true≢false}
 use mathlib.Core.List.{List, [], _∷_, _++_, append-assoc, append-nil}
-use Prim.Native.Nat.{ℕ, suc, _+_, _-_, _≤_, _<_}
-use lib.Dec.{eqb, ltb}
-use lib.ListN.{length, take, drop, getD}
+use Prim.Native.Nat.{ℕ, suc, _-_, _<_}
+use lib.ListN.{length, drop}
 use native.Mathlib.Omega.{arith}
-use Rattle.base64.specs.Lists.{All}
 use Rattle.base64.specs.Alphabet.{pad}
-use Rattle.grammar.specs.Marks.{CR, LF, White, begin, end, hyphen, hyphens, opening, closing}
+use Rattle.grammar.specs.Marks.{LF, begin, end, hyphen, hyphens, opening, closing}
 use Rattle.grammar.specs.Marks as marks
 use Rattle.grammar.specs.Grammars as grammars
 use Rattle.grammar.specs.Message.{Reading, textOf, Shape}
-use Rattle.grammar.specs.Starts.{Parse, Begins, LongestStart, HasOpening, HasClosing}
+use Rattle.grammar.specs.Starts.{Parse}
 use Rattle.grammar.specs.declared.Grammar.{Grammar}
 use Rattle.grammar.specs.declared.Grammar.the-variants as grammar
 use Rattle.machine.specs.Machine as m
-use Rattle.machine.specs.Machine.{state, wordOf, behind, next, step, run, start, boundaryPart, partOf, isAfter, accepting}
+use Rattle.machine.specs.Machine.{state, wordOf, behind, run, start, partOf, isAfter, accepting}
 use Rattle.machine.specs.declared.Boundary.{Boundary}
 use Rattle.machine.specs.declared.Boundary.the-variants.{Opening, Closing}
 use Rattle.machine.specs.declared.LabelPhase.{LabelPhase}
@@ -28,20 +26,18 @@ use Rattle.machine.specs.declared.StandardPhase.{StandardPhase}
 use Rattle.machine.specs.declared.StandardPhase.the-variants as standard
 use Rattle.machine.specs.declared.StrictPhase.{StrictPhase}
 use Rattle.machine.specs.declared.StrictPhase.the-variants as strict
-use Rattle.machine.specs.declared.Part.{Part}
 use Rattle.machine.specs.declared.Part.the-variants as part
 use Rattle.machine.specs.declared.Phase.{Phase}
 use Rattle.machine.specs.declared.Phase.the-variants.{Before, Word, Label, Lax, Standard, Strict, Dead}
 use Rattle.machine.specs.declared.State.{State}
-use Rattle.machine.proofs.Runs.{run-append}
-use Rattle.machine.proofs.Parts.{rank, next-rises, run-rises}
+use Rattle.machine.proofs.Parts.{rank}
 use Rattle.machine.proofs.Labels.{label-run}
 use Rattle.machine.proofs.Bodies.{Closes, ToClosing}
 use Rattle.machine.proofs.Lax.{lax-closes, lax-ends, lax-way}
 use Rattle.machine.proofs.Standard.{standard-closes, standard-ends, standard-way}
 use Rattle.machine.proofs.Strict.{strict-closes, strict-ends, strict-way}
-use Rattle.machine.proofs.Boundaries.{dead-stays, word-run, before-run}
-use Rattle.machine.proofs.Messages.{behind-body, behind-after, Parsed, accepted-parses, Progress, in-opening, dead, in-body, in-closing, behind-closing, progress}
+use Rattle.machine.proofs.Boundaries.{word-run, before-run}
+use Rattle.machine.proofs.Messages.{behind-body, behind-after, dead}
 
 -- ---- The machine reads each part of a text of the grammar
 

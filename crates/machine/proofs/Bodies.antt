@@ -1,19 +1,18 @@
 -- What may still come from each phase behind the opening: the bodies, and what stands behind the closing. Assumes nothing.
-use mathlib.Core.Path.{_≡_, refl, sym, subst}
+use mathlib.Core.Path.{_≡_}
 use mathlib.Core.Logic.{_⊎_}
 use mathlib.Core.Bool.{Bool, true, false, cond}
 use mathlib.Core.List.{List, [], _∷_, _++_}
 use Prim.Native.Nat.{ℕ, _+_, _*_, _≤_}
 use lib.Dec.{eqb}
-use borrow.Author.Tests.{eqb-true}
 use lib.ListN.{length, replicate}
 use Rattle.base64.specs.Lists.{All}
 use Rattle.base64.specs.Alphabet.{AlphabetChar, pad}
-use Rattle.grammar.specs.Marks.{CR, LF, hyphen, Blank, White, LineEnd}
-use Rattle.grammar.specs.Grammars.{LaxBody, FinalLine, StandardLines, BlankLines, StandardBody, StandardAfter, StrictLines, StrictBody}
+use Rattle.grammar.specs.Marks.{LF, hyphen, Blank, White, LineEnd}
+use Rattle.grammar.specs.Grammars.{LaxBody, StandardLines, BlankLines, StandardBody, StandardAfter, StrictLines, StrictBody}
 use Rattle.grammar.specs.declared.Grammar.{Grammar}
 use Rattle.machine.specs.Machine.{state, run, partOf}
-use Rattle.machine.specs.declared.Boundary.the-variants.{Opening, Closing}
+use Rattle.machine.specs.declared.Boundary.the-variants.{Closing}
 use Rattle.machine.specs.declared.LaxPhase.{LaxPhase}
 use Rattle.machine.specs.declared.LaxPhase.the-variants as lax
 use Rattle.machine.specs.declared.StandardPhase.{StandardPhase}
@@ -34,15 +33,6 @@ abbrev pub seenBehind : Bool → List ℕ → List ℕ
 seenBehind true l = afterLF l
 seenBehind false l = l
 
--- What may come without the LF that the machine passes over behind CR may come with it, where LF may stand in front.
-pub lf-before : (P : List ℕ → Type 0) → ((l : List ℕ) → P l → P (LF ∷ l)) → (l : List ℕ) → P (afterLF l) → P l
-lf-before P f [] h = h
-lf-before P f (c ∷ l) h = go (eqb c LF) refl h
-  where
-    go : (b : Bool) → eqb c LF ≡ b → P (cond b l (c ∷ l)) → P (c ∷ l)
-    go true e k = subst (λ x. P (x ∷ l)) (sym (eqb-true c LF e)) (f l k)
-    go false e k = k
-
 -- ---- Lax
 
 -- Behind a pad: white; or white, a pad and white.
@@ -58,14 +48,17 @@ LaxRest lax.Closed l = ⊥
 
 -- ---- Standard
 
--- Blanks and the line end of the final line.
-pub data Ending : List ℕ → Type 0 where
-  ending : (b e : List ℕ) → All Blank b → LineEnd e [] → Ending (b ++ e)
+-- Blanks, a line end and a P behind it.
+pub data EndThen (P : List ℕ → Type 0) : List ℕ → Type 0 where
+  end-then : (b e rest : List ℕ) → All Blank b → LineEnd e rest → P rest → EndThen P (b ++ (e ++ rest))
 
--- Blanks and the line end of a line that has alphabet characters: the final line, or another.
-pub data Trailing : List ℕ → Type 0 where
-  final : {l : List ℕ} → Ending l → Trailing l
-  line : (b e rest : List ℕ) → All Blank b → LineEnd e rest → StandardLines rest → Trailing (b ++ (e ++ rest))
+-- The end of the final line.
+abbrev pub Ending : List ℕ → Type 0
+Ending l = EndThen (λ r. r ≡ []) l
+
+-- The end of a line that has alphabet characters: the final line, or another.
+abbrev pub Trailing : List ℕ → Type 0
+Trailing l = EndThen (λ r. (r ≡ []) ⊎ StandardLines r) l
 
 -- Behind the first pad.
 pub data Padded : List ℕ → Type 0 where

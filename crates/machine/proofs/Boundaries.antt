@@ -1,21 +1,21 @@
 -- The machine in a boundary, and before the opening. Assumes nothing.
 use mathlib.Core.Path.{_≡_, refl, sym, ap, _∙_, subst}
-use mathlib.Core.Logic.{_⊎_, inl, inr, ⊎-elim}
-use mathlib.Core.Bool.{Bool, true, false, cond, true≢false}
-use mathlib.Core.List.{List, [], _∷_, _++_, append-assoc, append-nil}
+use mathlib.Core.Logic.{inl, inr}
+use mathlib.Core.Bool.{Bool, true, false, cond}
+use mathlib.Core.List.{List, [], _∷_, _++_}
 use Prim.Native.Nat.{ℕ, zero, suc, _+_, _<_, _≤_}
 use lib.Dec.{T, eqb, ltb}
 use lib.ListN.{length, getD, drop, replicate}
 use lib.Seq.{drop-cons, drop-length}
 use native.Mathlib.Omega.{arith}
-use borrow.Author.Tests.{eqb-true, eqb-false, eq-eqb, ltb-true, ltb-false, lt-ltb, le-ltb}
+use borrow.Author.Tests.{eqb-true, eq-eqb, ltb-true, ltb-false, lt-ltb, le-ltb}
 use Rattle.base64.specs.Lists.{All}
 use Rattle.base64.specs.Alphabet.{pad}
 use Rattle.base64.proofs.Tests.{below-at}
-use Rattle.grammar.specs.Marks.{CR, LF, White, begin, end, hyphen, hyphens, opening, closing, Label}
+use Rattle.grammar.specs.Marks.{CR, LF, White, begin, end, hyphen, Label}
 use Rattle.grammar.specs.declared.Grammar.{Grammar}
 use Rattle.machine.specs.Kinds.{kindOf}
-use Rattle.machine.specs.Machine.{state, wordOf, wordStep, labelRow, labelTarget, labelled, behind, beforeStep, next, step, run, boundaryPart, partOf, bytePart, trace}
+use Rattle.machine.specs.Machine.{state, wordOf, wordStep, labelRow, labelTarget, behind, beforeStep, next, step, run, boundaryPart, partOf, bytePart, trace}
 use Rattle.machine.specs.declared.Boundary.{Boundary}
 use Rattle.machine.specs.declared.Boundary.the-variants.{Opening, Closing}
 use Rattle.machine.specs.declared.LabelPhase.{LabelPhase}
@@ -24,13 +24,12 @@ use Rattle.machine.specs.declared.LabelTarget.{LabelTarget}
 use Rattle.machine.specs.declared.LabelTarget.the-variants.{To, Whole, Refused}
 use Rattle.machine.specs.declared.Part.{Part}
 use Rattle.machine.specs.declared.Part.the-variants as part
-use Rattle.machine.specs.declared.Phase.{Phase}
 use Rattle.machine.specs.declared.Phase.the-variants as phase
 use Rattle.machine.specs.declared.State.{State}
-use Rattle.machine.proofs.Bytes.{Seen, View, tab, space, cr, lf, vt, ff, dash, equals, char, mark, other, view, ht-white, sp-white, cr-white, lf-white, vt-white, ff-white}
+use Rattle.machine.proofs.Bytes.{View, tab, space, cr, lf, vt, ff, dash, equals, char, mark, other, view, ht-white, sp-white, cr-white, lf-white, vt-white, ff-white}
 use Rattle.machine.proofs.Runs.{run-all, run-moves}
 use Rattle.machine.proofs.Parts.{rank}
-use Rattle.machine.proofs.Labels.{Ended, ended, LabelRest, TargetRest, label-before, NoCr, label-no-cr, label-run}
+use Rattle.machine.proofs.Labels.{Ended, LabelRest, TargetRest, label-before, NoCr, label-no-cr}
 
 -- Dead stays dead.
 pub dead-stays : (g : Grammar) (b : Bool) (l : List ℕ) → (run g (state phase.Dead b) l) .phase ≡ phase.Dead

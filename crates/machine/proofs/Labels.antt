@@ -1,8 +1,8 @@
 -- The machine in a label and the five hyphens behind it. Assumes nothing.
-use mathlib.Core.Path.{_≡_, refl, sym, ap, _∙_, subst}
+use mathlib.Core.Path.{_≡_, refl, ap, _∙_}
 use mathlib.Core.Logic.{_⊎_, inl, inr}
-use mathlib.Core.Bool.{Bool, true, false}
-use mathlib.Core.List.{List, [], _∷_, _++_, append-assoc}
+use mathlib.Core.Bool.{false}
+use mathlib.Core.List.{List, [], _∷_, _++_}
 use Prim.Native.Nat.{ℕ}
 use lib.Dec.{eqb}
 use native.Mathlib.Omega.{arith}
@@ -10,18 +10,15 @@ use Rattle.base64.specs.Alphabet.{pad}
 use Rattle.grammar.specs.Marks.{CR, SP, hyphen, hyphens, LabelChar, Separator, LabelChars, last, next, separated, Label, empty, chars}
 use Rattle.grammar.specs.declared.Grammar.{Grammar}
 use Rattle.machine.specs.Kinds.{kindOf}
-use Rattle.machine.specs.Machine as m
-use Rattle.machine.specs.Machine.{state, labelRow, labelTarget, labelled, behind, run}
+use Rattle.machine.specs.Machine.{state, labelRow, labelTarget, behind, run}
 use Rattle.machine.specs.declared.Boundary.{Boundary}
-use Rattle.machine.specs.declared.Kind.the-variants.{Alphabet}
 use Rattle.machine.specs.declared.LabelPhase.{LabelPhase}
 use Rattle.machine.specs.declared.LabelPhase.the-variants.{Start, Char, Space, Hyphen, One, Two, Three, Four}
 use Rattle.machine.specs.declared.LabelRow.{LabelRow}
 use Rattle.machine.specs.declared.LabelTarget.{LabelTarget}
 use Rattle.machine.specs.declared.LabelTarget.the-variants.{To, Whole, Refused}
-use Rattle.machine.specs.declared.Phase.{Phase}
 use Rattle.machine.specs.declared.Phase.the-variants as phase
-use Rattle.machine.proofs.Bytes.{Seen, View, tab, space, cr, lf, vt, ff, dash, equals, char, mark, other, view}
+use Rattle.machine.proofs.Bytes.{View, tab, space, cr, lf, vt, ff, dash, equals, char, mark, other, view}
 
 -- Something, with the five hyphens behind it.
 pub data Ended (P : List ℕ → Type 0) : List ℕ → Type 0 where

@@ -4,7 +4,6 @@ pub mod Parts
 pub mod Runs
 pub mod Bodies
 pub mod LineEnds
-pub mod LineEnds5
 pub mod Rows
 pub mod Lax
 pub mod Standard

@@ -1,45 +1,58 @@
--- Line ends at the machine: what it sees behind a CR, and that it reads a line end whole. Assumes nothing.
-use mathlib.Core.Path.{_≡_, refl, sym, ap, _∙_}
-use mathlib.Core.Bool.{Bool, true, false}
-use mathlib.Core.List.{List, [], _∷_, _++_, head-eq-of-cons-eq, cons≢nil}
+-- Line ends at the machine: which bytes it reads as one, and that it reads one whole. Assumes nothing.
+use mathlib.Core.Path.{_≡_, refl, _∙_}
+use mathlib.Core.Bool.{Bool, true, false, cond}
+use mathlib.Core.List.{List, [], _∷_, _++_, append-nil, nil≢cons, head-eq-of-cons-eq}
 use Prim.Native.Nat.{ℕ}
 use lib.Dec.{eqb}
 use borrow.Author.Tests.{eqb-true, eqb-false, ne-eqb}
 use Rattle.grammar.specs.Marks.{CR, LF, hyphen, NoLF, LineEnd, crlf, cr, lf}
 use Rattle.grammar.specs.declared.Grammar.{Grammar}
-use Rattle.machine.specs.Machine.{next, state, run}
+use Rattle.machine.specs.Machine.{next, state, run, accepting}
+use Rattle.machine.specs.declared.Boundary.the-variants.{Closing}
 use Rattle.machine.specs.declared.Phase.{Phase}
-use Rattle.machine.proofs.Bodies.{afterLF}
+use Rattle.machine.specs.declared.Phase.the-variants.{Word}
+use Rattle.machine.proofs.Runs.{run-moves}
+use Rattle.machine.proofs.Bodies.{seenBehind, Closes}
 
--- The list is a line end and a rest that is a P.
-pub record Ended (P : List ℕ → Type 0) (l : List ℕ) : Type 0 where
-  pub end : List ℕ
-  pub rest : List ℕ
-  pub cut : l ≡ end ++ rest
-  pub ends : LineEnd end rest
-  pub holds : P rest
+-- The machine reads c as the start of an M: what holds of each M with an R behind it holds of c ∷ l, where what the machine sees of l is an R.
+abbrev pub Reads : (M : List ℕ → List ℕ → Type 0) (c : ℕ) → Type 1
+Reads M c = (R Q : List ℕ → Type 0) → ((e rest : List ℕ) → M e rest → R rest → Q (e ++ rest)) → (l : List ℕ) → R (seenBehind (eqb c CR) l) → Q (c ∷ l)
 
 -- LF is a line end.
-pub line-end-lf : (P : List ℕ → Type 0) (l : List ℕ) → P l → Ended P (LF ∷ l)
-line-end-lf P l h = record { end = LF ∷ []; rest = l; cut = refl; ends = lf; holds = h }
+pub lf-reads : Reads LineEnd LF
+lf-reads R Q f l = f _ l lf
 
 -- CR is one, with the LF behind it if there is one.
-pub line-end-cr : (P : List ℕ → Type 0) (l : List ℕ) → P (afterLF l) → Ended P (CR ∷ l)
-line-end-cr P [] h = record { end = CR ∷ []; rest = []; cut = refl; ends = cr (λ r e. cons≢nil (sym e)); holds = h }
-line-end-cr P (c ∷ l) h = go (eqb c LF) refl
+pub cr-reads : Reads LineEnd CR
+cr-reads R Q f [] = f _ [] (cr (λ r. nil≢cons))
+cr-reads R Q f (c ∷ l) = go (eqb c LF) refl
   where
-    go : (b : Bool) → eqb c LF ≡ b → Ended P (CR ∷ c ∷ l)
-    go true e = record { end = CR ∷ LF ∷ []; rest = l; cut = rw (eqb-true c LF e); ends = crlf; holds = rw e at h }
-    go false e = record { end = CR ∷ []; rest = c ∷ l; cut = refl; ends = cr (λ r q. eqb-false c LF e (head-eq-of-cons-eq q)); holds = rw e at h }
+    go : (b : Bool) → eqb c LF ≡ b → R (cond b l (c ∷ l)) → Q (CR ∷ c ∷ l)
+    go true e h = rw (eqb-true c LF e) (f _ l crlf h)
+    go false e h = f _ (c ∷ l) (cr (λ r q. eqb-false c LF e (head-eq-of-cons-eq q))) h
+
+-- A line end with nothing behind it.
+pub line-end-last : (e rest : List ℕ) → LineEnd e rest → rest ≡ [] → LineEnd (e ++ rest) []
+line-end-last e rest he z = rw (z, append-nil) (rw z at he)
 
 -- Behind CR the machine goes on as behind any other byte, where LF does not follow.
-flag-dropped : (g : Grammar) (p : Phase) (l z : List ℕ) → NoLF l → run g (state p true) (l ++ (hyphen ∷ z)) ≡ run g (state p false) (l ++ (hyphen ∷ z))
-flag-dropped g p [] z n = refl
-flag-dropped g p (c ∷ l) z n = rw (ne-eqb c LF (λ e. n l (rw e)), run)
+cr-forgotten : (g : Grammar) (p : Phase) (l z : List ℕ) → NoLF l → run g (state p true) (l ++ (hyphen ∷ z)) ≡ run g (state p false) (l ++ (hyphen ∷ z))
+cr-forgotten g p [] z n = refl
+cr-forgotten g p (c ∷ l) z n = run-moves g p true c (l ++ (hyphen ∷ z)) (ne-eqb c LF (λ e. n l (rw e)))
 
--- The machine reads a line end whole, where a hyphen stands behind the rest.
-pub run-line-end : (g : Grammar) (p q : Phase) {e rest : List ℕ} → LineEnd e rest → next g p CR ≡ q → next g p LF ≡ q
-    → (z : List ℕ) → run g (state p false) ((e ++ rest) ++ (hyphen ∷ z)) ≡ run g (state q false) (rest ++ (hyphen ∷ z))
-run-line-end g p q {rest = l} crlf c d z = ap (λ (x : Phase). run g (state x false) (l ++ (hyphen ∷ z))) c
-run-line-end g p q {rest = l} (cr n) c d z = ap (λ (x : Phase). run g (state x true) (l ++ (hyphen ∷ z))) c ∙ flag-dropped g q l z n
-run-line-end g p q {rest = l} lf c d z = ap (λ (x : Phase). run g (state x false) (l ++ (hyphen ∷ z))) d
+module _ (g : Grammar) (p : Phase) {q : Phase} (on-cr : next g p CR ≡ q) (on-lf : next g p LF ≡ q) where
+  -- The machine reads a line end whole, in front of what leads to the closing.
+  pub line-end-closes : {e rest : List ℕ} → LineEnd e rest → Closes g q rest → Closes g p (e ++ rest)
+  line-end-closes crlf h z = rw (← on-cr) at (h z)
+  line-end-closes {rest = rest} (cr n) h z = cr-forgotten g (next g p CR) rest z n ∙ (rw (← on-cr) at (h z))
+  line-end-closes lf h z = rw (← on-lf) at (h z)
+
+  -- The last line end of a body, behind which the machine waits for the closing.
+  pub last-end-closes : {e : List ℕ} → LineEnd e [] → next g q hyphen ≡ Word Closing 1 → Closes g p e
+  last-end-closes he h = rw append-nil at (line-end-closes he (λ z. rw h))
+
+  -- A line end behind which the machine accepts.
+  pub line-end-accepted : {e : List ℕ} → accepting q ≡ true → LineEnd e [] → accepting (run g (state p false) e .phase) ≡ true
+  line-end-accepted a crlf = rw on-cr a
+  line-end-accepted a (cr h) = rw on-cr a
+  line-end-accepted a lf = rw on-lf a

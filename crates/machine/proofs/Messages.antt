@@ -1,25 +1,21 @@
 -- What the machine has read of a message, in terms of the grammar's relations, and what it accepts. Assumes nothing.
 use mathlib.Core.Path.{_≡_, refl, sym, ap, _∙_, subst}
-use mathlib.Core.Logic.{_⊎_, inl, inr}
-use mathlib.Core.Bool.{Bool, true, false, cond, true≢false}
-use mathlib.Core.List.{List, [], _∷_, _++_, append-assoc, append-nil}
-use Prim.Native.Nat.{ℕ, suc, _≤_, _<_}
+use mathlib.Core.Bool.{Bool, true, false, true≢false}
+use mathlib.Core.List.{List, [], _∷_, _++_, append-assoc}
+use Prim.Native.Nat.{ℕ, _≤_}
 use lib.Dec.{eqb}
 use lib.ListN.{length, replicate, drop}
 use native.Mathlib.Omega.{arith}
-use Rattle.base64.specs.Lists.{All}
-use Rattle.grammar.specs.Marks.{CR, LF, White, begin, end, hyphen, hyphens, opening, closing}
+use Rattle.grammar.specs.Marks.{CR, LF, end, hyphen, hyphens, opening, closing}
 use Rattle.grammar.specs.Marks as marks
 use Rattle.grammar.specs.Grammars as grammars
 use Rattle.grammar.specs.Message.{Reading, textOf, Shape}
-use Rattle.grammar.specs.Starts.{Parse, HasOpening, HasClosing}
+use Rattle.grammar.specs.Starts.{HasOpening, HasClosing}
 use Rattle.grammar.specs.declared.Grammar.{Grammar}
 use Rattle.grammar.specs.declared.Grammar.the-variants as grammar
-use Rattle.machine.specs.Machine.{state, behind, next, step, run, start, boundaryPart, partOf, bytePart, trace, isAfter, accepting}
+use Rattle.machine.specs.Machine.{state, behind, next, step, run, start, partOf, bytePart, trace, isAfter, accepting}
 use Rattle.machine.specs.declared.Boundary.{Boundary}
 use Rattle.machine.specs.declared.Boundary.the-variants.{Opening, Closing}
-use Rattle.machine.specs.declared.LaxPhase.the-variants as lax
-use Rattle.machine.specs.declared.StandardPhase.the-variants as standard
 use Rattle.machine.specs.declared.StrictPhase.the-variants as strict
 use Rattle.machine.specs.declared.Part.{Part}
 use Rattle.machine.specs.declared.Part.the-variants as part
@@ -28,12 +24,12 @@ use Rattle.machine.specs.declared.Phase.the-variants.{Before, Word, Labe
 use Rattle.machine.specs.declared.State.{State}
 use Rattle.machine.proofs.Parts.{rank, next-rises, run-rises}
 use Rattle.machine.proofs.Labels.{Ended, ended}
-use Rattle.machine.proofs.Bodies.{afterLF, seenBehind, BodyRest, AfterRest, Closes, Way, dies, stays, closes}
+use Rattle.machine.proofs.Bodies.{seenBehind, BodyRest, AfterRest, Way, dies, stays, closes}
 use Rattle.machine.proofs.Lax.{lax-before, lax-ways, lax-after, lax-accepting}
 use Rattle.machine.proofs.Standard.{standard-before, standard-ways, standard-after, standard-accepting}
 use Rattle.machine.proofs.Strict.{strict-before, strict-ways, strict-after, strict-accepting}
 use Rattle.machine.proofs.Boundaries as cuts
-use Rattle.machine.proofs.Boundaries.{Cut, InBoundary, WordRest, word, BeforeRest, before, dead-stays, label-cut, word-cut, before-cut}
+use Rattle.machine.proofs.Boundaries.{Cut, InBoundary, WordRest, word, BeforeRest, before, dead-stays, word-cut, before-cut}
 
 -- ---- The opening
 

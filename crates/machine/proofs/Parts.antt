@@ -1,8 +1,7 @@
 -- The machine never goes back to an earlier part of a message. Assumes nothing.
-use mathlib.Core.Path.{_≡_, refl, sym, ap, subst}
 use mathlib.Core.Bool.{Bool, true, false, cond}
-use mathlib.Core.List.{List, [], _∷_, _++_}
-use Prim.Native.Nat.{ℕ, suc, _≤_, _<_, _%_}
+use mathlib.Core.List.{List, [], _∷_}
+use Prim.Native.Nat.{ℕ, suc, _≤_, _%_}
 use lib.Dec.{eqb, ltb}
 use lib.ListN.{length, getD}
 use native.Mathlib.Omega.{arith}
@@ -10,7 +9,7 @@ use Rattle.grammar.specs.Marks.{CR, LF}
 use Rattle.grammar.specs.declared.Grammar.{Grammar}
 use Rattle.grammar.specs.declared.Grammar.the-variants as grammar
 use Rattle.machine.specs.Kinds.{kindOf}
-use Rattle.machine.specs.Machine.{state, wordOf, wordStep, labelRow, labelTarget, labelled, behind, laxRow, standardRow, strictRow, lineEnd, lineChar, linePad, target, next, step, run, boundaryPart, partOf}
+use Rattle.machine.specs.Machine.{state, wordOf, wordStep, labelRow, labelTarget, labelled, laxRow, standardRow, strictRow, target, next, step, run, boundaryPart, partOf}
 use Rattle.machine.specs.declared.Boundary.{Boundary}
 use Rattle.machine.specs.declared.Boundary.the-variants.{Opening, Closing}
 use Rattle.machine.specs.declared.Kind.{Kind}

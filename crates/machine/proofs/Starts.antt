@@ -1,20 +1,20 @@
 -- The machine lives exactly on the starts of the grammar's texts, so it dies right behind the longest. Assumes nothing.
-use mathlib.Core.Path.{_≡_, refl, sym, ap, _∙_, subst}
+use mathlib.Core.Path.{_≡_, refl, sym, ap, _∙_}
 use mathlib.Core.Logic.{_⊎_, inl, inr, _≢_}
 use mathlib.Core.Bool.{Bool, true, false, cond, true≢false}
-use mathlib.Core.List.{List, [], _∷_, _++_, append-assoc}
+use mathlib.Core.List.{List, [], _∷_, _++_}
 use Prim.Native.Nat.{ℕ, suc, _+_, _-_, _≤_, _<_, _%_}
 use lib.Dec.{eqb, ltb}
 use lib.ListN.{length, take, drop, getD}
 use lib.Seq.{take-add}
 use native.Mathlib.Omega.{arith}
 use borrow.Author.Tests.{ltb-true}
-use Rattle.grammar.specs.Marks.{CR, LF, hyphen, opening, closing}
+use Rattle.grammar.specs.Marks.{CR, LF, hyphen}
 use Rattle.grammar.specs.Starts.{Parse, Begins, LongestStart, HasOpening, HasClosing}
 use Rattle.grammar.specs.declared.Grammar.{Grammar}
 use Rattle.grammar.specs.declared.Grammar.the-variants as grammar
 use Rattle.machine.specs.Kinds.{kindOf}
-use Rattle.machine.specs.Machine.{state, wordOf, wordStep, labelRow, labelTarget, labelled, behind, laxRow, standardRow, strictRow, target, beforeStep, next, step, run, start, partOf, accepting}
+use Rattle.machine.specs.Machine.{state, wordOf, wordStep, labelRow, labelTarget, labelled, behind, laxRow, standardRow, strictRow, beforeStep, next, step, run, start, partOf, accepting}
 use Rattle.machine.specs.declared.Boundary.{Boundary}
 use Rattle.machine.specs.declared.Boundary.the-variants.{Opening, Closing}
 use Rattle.machine.specs.declared.Kind.{Kind}
@@ -34,7 +34,7 @@ use Rattle.machine.specs.declared.State.{State}
 use Rattle.machine.proofs.Runs.{run-append}
 use Rattle.machine.proofs.Parts.{rank, AllWays, target-all, run-rises}
 use Rattle.machine.proofs.Boundaries.{dead-stays}
-use Rattle.machine.proofs.Messages.{behind-body, behind-after, Parsed, accepted-parses}
+use Rattle.machine.proofs.Messages.{behind-body, Parsed, accepted-parses}
 use Rattle.machine.proofs.Acceptance.{InRange, ToEnd, state-way, opening-run, body-closes, parse-accepted}
 
 -- ---- The machine stays in range

@@ -1,2 +1,7 @@
--- What reading a message does behind the grammar. Assumes nothing.
+-- Reading one message. Assumes nothing.
+pub mod Limits
+pub mod Answers
+pub mod Meaning
 pub mod Data
+pub mod Scan
+pub mod Read
