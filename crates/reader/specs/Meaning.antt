@@ -109,8 +109,8 @@ pub data Reads (text : List ℕ) (number room : ℕ) : ReadAnswer → List ℕ �
 
 -- The part that the label call hands back.
 pub data HandsBack (text : List ℕ) (number : ℕ) : List ℕ → Type 0 where
-  -- the opening label, where it stands in the text
-  label : (g : Grammar) (r : Reading) → Passed text number g r
+  -- the opening label, as that part of the text where it stands
+  label : (g : Grammar) (r : Reading) → Passed text number g r → take (length (r .openingLabel)) (drop (labelStart r) text) ≡ r .openingLabel
       → HandsBack text number (take (length (r .openingLabel)) (drop (labelStart r) text))
   -- where checks 1 to 9 refuse, the empty part; where it starts is left free
   none : {refusal : Refusal} → Refuses text number refusal → HandsBack text number []

@@ -12,7 +12,7 @@ ghost use Rattle.grammar.specs.Marks.{begin, end, hyphens};
 ghost use Rattle.grammar.specs.declared.Numbered.the-variants.{Known};
 ghost use Rattle.machine.specs.Machine.{start};
 ghost use Rattle.reader.specs.Limits.{textLimit, labelLimit};
-ghost use Rattle.reader.specs.Answers.{offset};
+ghost use Rattle.reader.specs.Answers.{refusalNumber, refusalPlace, numberOf};
 ghost use Rattle.reader.specs.Meaning.{Reads, HandsBack};
 ghost use Rattle.reader.specs.Scan.{noTally, bodyTallied, tallied, scanOf};
 ghost use Rattle.reader.specs.Read.{Roomy, Fits, Lies, spanned, layoutOf, grammarRefusal, labelsAgree, countsFit, lastAt, spareClear, judgedParts, judgedScan, judgedBy, judgeOf, readOf, outputOf, labelOf};
@@ -496,5 +496,54 @@ pub fn label(text: &[u8], grammar: u32) -> &[u8]
             part_at(text, opened)
         }
         Judgement::Refused(_) => &text[0..0],
+    }
+}
+
+impl Refusal {
+    // The requirements' number.
+    pub fn number(self) -> u32
+        ensures { λ r. ⌜ r ≡ refusalNumber self ⌝ }
+    {
+        match self {
+            Refusal::UnknownGrammar => 1,
+            Refusal::TextTooLong => 2,
+            Refusal::BadOpening(_) => 3,
+            Refusal::BadBody(_) => 4,
+            Refusal::BadClosing(_) => 5,
+            Refusal::LabelTooLong(_) => 6,
+            Refusal::LabelsDiffer(_) => 7,
+            Refusal::BadCounts(_) => 8,
+            Refusal::SpareBits(_) => 9,
+        }
+    }
+
+    // The place in the text.
+    pub fn place(self) -> TextOffset
+        ensures { λ r. ⌜ r .0 ≡ refusalPlace self ⌝ }
+    {
+        match self {
+            Refusal::UnknownGrammar => TextOffset(0),
+            Refusal::TextTooLong => TextOffset(0),
+            Refusal::BadOpening(place) => place,
+            Refusal::BadBody(place) => place,
+            Refusal::BadClosing(place) => place,
+            Refusal::LabelTooLong(place) => place,
+            Refusal::LabelsDiffer(place) => place,
+            Refusal::BadCounts(place) => place,
+            Refusal::SpareBits(place) => place,
+        }
+    }
+}
+
+impl ReadAnswer {
+    // The requirements' number.
+    pub fn number(self) -> u32
+        ensures { λ r. ⌜ r ≡ numberOf self ⌝ }
+    {
+        match self {
+            ReadAnswer::Accepted(_) => 0,
+            ReadAnswer::Refused(refusal) => refusal.number(),
+            ReadAnswer::OutputTooSmall(_) => 10,
+        }
     }
 }

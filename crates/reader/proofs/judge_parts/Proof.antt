@@ -1,0 +1,88 @@
+-- `reader::judge_parts` meets its contract: the code's checks are those of `judgedParts`. Assumes nothing.
+use mathlib.Core.Path.{_≡_, sym, ap, _∙_}
+use mathlib.Core.Bool.{Bool, true, false, not}
+use lib.Dec.{ltb}
+use borrow.Author.Tests.{lt-ltb, le-ltb, not-true, not-false}
+use borrow.Author.Needs.{needs}
+use Rattle.reader.specs.Limits.{labelLimit}
+use Rattle.reader.specs.Answers.{byteCount}
+use Rattle.reader.specs.Read.{labelsAgree, countsFit, spareClear}
+use Rattle.reader.proofs.judge_parts.Statement.{statement}
+use Rattle.reader.proofs.judge_parts.Tie as tie
+
+check-passed : {r b : Bool} → r ≡ b → not r ≡ false → b ≡ true
+check-passed e h = sym e ∙ not-false _ h
+
+check-failed : {r b : Bool} → r ≡ b → not r ≡ true → b ≡ false
+check-failed e h = sym e ∙ not-true _ h
+
+abbrev start : tie.Else1 → tie.Start
+start c = c .before .before .before .before
+
+short : (c : tie.Else1) → ltb labelLimit (start c .args .layout .opened .length) ≡ false
+short c = le-ltb _ _ (c .if1 .left)
+
+agreed : (c : tie.Else2) → labelsAgree (start (c .before .before) .args .text .now) (start (c .before .before) .args .layout) ≡ true
+agreed c = check-passed (c .before .labels-agree .ensures) (c .if2 .left)
+
+fitted : (c : tie.Else3) → countsFit (start (c .before .before .before .before) .args .tally .characters) (start (c .before .before .before .before) .args .tally .pads) ≡ true
+fitted c = check-passed (c .before .counts-fit .ensures) (c .if3 .left)
+
+cleared : (c : tie.Else4)
+    → spareClear (start (c .before .before .before .before .before .before) .args .grammar) (start (c .before .before .before .before .before .before) .args .text .now)
+    (start (c .before .before .before .before .before .before) .args .layout) (start (c .before .before .before .before .before .before) .args .tally)
+    ≡ true
+cleared c = check-passed (c .before .spare-clear .ensures) (c .if4 .left)
+
+returns : tie.Need-returns
+returns c = rw (lt-ltb _ _ (c .before .if1 .taken))
+
+labels-agree-requires : tie.Need-labels-agree-requires
+labels-agree-requires c κs = search needs
+
+returns-2 : tie.Need-returns-2
+returns-2 c = rw (short (c .before .before .before .before), check-failed (c .before .before .before .labels-agree .ensures) (c .before .before .if2 .taken))
+
+counts-fit-requires : tie.Need-counts-fit-requires
+counts-fit-requires c κs = search needs
+
+returns-3 : tie.Need-returns-3
+returns-3 c = rw (short (c .before .before .before .before .before), agreed (c .before .before .before), check-failed (c .before .before .counts-fit .ensures) (c .before .if3 .taken))
+
+spare-clear-requires : tie.Need-spare-clear-requires
+spare-clear-requires c κs = search needs
+
+add-t18 : tie.Need-add-t18
+add-t18 c = search needs
+
+returns-4 : tie.Need-returns-4
+returns-4 c =
+    rw (
+      short (c .before .before .before .before .before .before .before .before .before .before),
+      agreed (c .before .before .before .before .before .before .before .before),
+      fitted (c .before .before .before .before .before .before),
+      check-failed (c .before .before .before .before .before .spare-clear .ensures) (c .before .before .before .before .if4 .taken),
+    )
+
+decoded-count-requires : tie.Need-decoded-count-requires
+decoded-count-requires c κs = search needs
+
+returns-5 : tie.Need-returns-5
+returns-5 c =
+    let size : c .decoded-count .result ≡ byteCount _ = ap byteCount (c .decoded-count .ensures) in
+    rw (short (c .before .before .before .before .before .before .before), agreed (c .before .before .before .before .before), fitted (c .before .before .before), cleared (c .before), size)
+
+pub judge-parts-spec : {M : Type 1} → statement M
+judge-parts-spec =
+    tie.close
+    (tie.spec
+    returns
+    labels-agree-requires
+    returns-2
+    counts-fit-requires
+    returns-3
+    spare-clear-requires
+    add-t18
+    returns-4
+    decoded-count-requires
+    returns-5)

@@ -1,0 +1,1 @@
+-- Facts about the files of specs/. Assumes nothing.

@@ -1,0 +1,2 @@
+-- The door of the library. Assumes nothing.
+pub mod Reports

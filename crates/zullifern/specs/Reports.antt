@@ -1,0 +1,37 @@
+-- The reports of the exported calls: number, place, size, label offset, label length and three zeros. Assumes nothing.
+use mathlib.Core.List.{List, [], _∷_}
+use Prim.Native.Nat.{ℕ}
+use lib.ListN.{getD, take, drop}
+use Rattle.reader.specs.Answers.{refusalNumber, refusalPlace, numberOf, placeOf, sizeOf, labelOffsetOf, labelLengthOf}
+use Rattle.reader.specs.Read.{judgeOf}
+use Rattle.reader.specs.declared.Found.{Found}
+use Rattle.reader.specs.declared.Judgement.{Judgement}
+use Rattle.reader.specs.declared.Judgement.the-variants as judgement
+use Rattle.reader.specs.declared.ReadAnswer.{ReadAnswer}
+use Rattle.reader.specs.declared.ReadAnswer.the-variants as answer
+use Rattle.reader.specs.declared.Refusal.{Refusal}
+
+abbrev pub report : (number place size at length : ℕ) → List ℕ
+report number place size at length = number ∷ place ∷ size ∷ at ∷ length ∷ 0 ∷ 0 ∷ 0 ∷ []
+
+-- The numbers of an answer of the read call.
+abbrev pub readReport : ReadAnswer → List ℕ
+readReport a = report (numberOf a) (placeOf a) (sizeOf a) (labelOffsetOf a) (labelLengthOf a)
+
+abbrev pub refusalReport : Refusal → List ℕ
+refusalReport r = readReport (answer.Refused r)
+
+abbrev pub foundReport : ℕ → Found → List ℕ
+foundReport number found = report number 0 (found .size .0) (found .label .at .0) (found .label .length)
+
+-- The part that the label call hands back, in slots 3 and 4.
+abbrev pub judgedReport : Judgement → List ℕ
+judgedReport (judgement.Sound l size) = report 0 0 0 (l .opened .at .0) (l .opened .length)
+judgedReport (judgement.Refused r) = report 0 0 0 0 0
+
+abbrev pub labelReport : List ℕ → ℕ → List ℕ
+labelReport text number = judgedReport (judgeOf text number)
+
+-- The part of a text that slots 3 and 4 name.
+abbrev pub reportedPart : List ℕ → List ℕ → List ℕ
+reportedPart text slots = take (getD slots 4 0) (drop (getD slots 3 0) text)

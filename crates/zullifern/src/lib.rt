@@ -1,0 +1,106 @@
+// The door of the library: the calls for C and for Rust. Any bytes may come in, any number and any length.
+//
+// Each call fills a report of eight numbers: the answer's number, its place, its size, the label's offset and its length, and
+// three zeros. A slice is handed over as a pointer and a length.
+ghost use mathlib.Core.Path.{_≡_};
+ghost use lib.ListN.{length};
+ghost use Rattle.reader.specs.Answers.{numberOf};
+ghost use Rattle.reader.specs.Meaning.{Reads, HandsBack};
+ghost use Rattle.reader.specs.Read.{readOf, outputOf, judgeOf};
+ghost use Rattle.zullifern.specs.Reports.{readReport, refusalReport, foundReport, labelReport, judgedReport, reportedPart};
+use reader::Found;
+use reader::Judgement;
+use reader::ReadAnswer;
+use reader::Refusal;
+
+// The report of a refusal 1 to 9.
+fn refusal_report(refusal: Refusal) -> [u64; 8]
+    ensures { λ r. ⌜ r ≡ refusalReport refusal ⌝ }
+{
+    let place = refusal.place();
+    [refusal.number() as u64, place.0 as u64, 0, 0, 0, 0, 0, 0]
+}
+
+// The report of a message that was found, under the number 0 or 10.
+fn found_report(number: u64, found: Found) -> [u64; 8]
+    ensures { λ r. ⌜ r ≡ foundReport number found ⌝ }
+{
+    let size = found.size;
+    let label = found.label;
+    let at = label.at;
+    [
+        number,
+        0,
+        size.0 as u64,
+        at.0 as u64,
+        label.length as u64,
+        0,
+        0,
+        0,
+    ]
+}
+
+// The report of what `read` answers.
+fn read_report(answer: ReadAnswer) -> [u64; 8]
+    ensures { λ r. ⌜ r ≡ readReport answer ⌝ }
+{
+    match answer {
+        ReadAnswer::Accepted(found) => found_report(0, found),
+        ReadAnswer::Refused(refusal) => refusal_report(refusal),
+        ReadAnswer::OutputTooSmall(found) => found_report(10, found),
+    }
+}
+
+// The report of a label's part.
+fn label_report(judgement: Judgement) -> [u64; 8]
+    ensures { λ r. ⌜ r ≡ judgedReport judgement ⌝ }
+{
+    match judgement {
+        Judgement::Sound(layout, _) => {
+            let opened = layout.opened;
+            let at = opened.at;
+            [0, 0, 0, at.0 as u64, opened.length as u64, 0, 0, 0]
+        }
+        Judgement::Refused(_) => [0, 0, 0, 0, 0, 0, 0, 0],
+    }
+}
+
+// Fills the lent report.
+fn put_report(values: [u64; 8], report: &mut [u64; 8])
+    ensures { λ _. ⌜ now (report .exit) ≡ values ⌝ }
+{
+    report[0] = values[0];
+    report[1] = values[1];
+    report[2] = values[2];
+    report[3] = values[3];
+    report[4] = values[4];
+    report[5] = values[5];
+    report[6] = values[6];
+    report[7] = values[7];
+}
+
+// Reads a text that is to be one message of the grammar of this number, and answers the number. After 0 the output holds the
+// data and then zeros, after anything else zeros only, whatever it held before.
+#[no_mangle]
+pub extern "C" fn zullifern_read(
+    text: &[u8],
+    grammar: u32,
+    out: &mut [u8],
+    report: &mut [u64; 8],
+) -> u32
+    ensures { λ r. ⌜ (r ≡ numberOf (readOf (now (text .entry)) grammar (length (now (out .entry))))) × (now (report .exit) ≡ readReport (readOf (now (text .entry)) grammar (length (now (out .entry))))) × (now (out .exit) ≡ outputOf (now (text .entry)) grammar (length (now (out .entry)))) × Reads (now (text .entry)) grammar (length (now (out .entry))) (readOf (now (text .entry)) grammar (length (now (out .entry)))) (now (out .exit)) ⌝ }
+{
+    let answer = reader::read(text, grammar, out);
+    put_report(read_report(answer), report);
+    answer.number()
+}
+
+// The opening label's part of the text: its offset and its length stand in the report's slots 3 and 4, and the call answers
+// 0. Where the checks 1 to 9 refuse, the length is zero; an empty label and a refusal look alike here.
+#[no_mangle]
+pub extern "C" fn zullifern_label(text: &[u8], grammar: u32, report: &mut [u64; 8]) -> u32
+    ensures { λ r. ⌜ (r ≡ 0) × (now (report .exit) ≡ labelReport (now (text .entry)) grammar) × HandsBack (now (text .entry)) grammar (reportedPart (now (text .entry)) (now (report .exit))) ⌝ }
+{
+    put_report(label_report(reader::judge(text, grammar)), report);
+    0
+}
