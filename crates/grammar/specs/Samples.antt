@@ -1,32 +1,12 @@
--- The counter samples of the requirements: the rows marked *, and texts of the paragraph and of the habits below them. Each
--- is spelled out in bytes. The numbers and places of refusals are the reader's and will stand with it. Assumes nothing.
+-- Texts of the requirements' samples, spelled out in bytes, and what the grammars make of those that the rows of the table
+-- leave out: labels, lines and bundles. The rows stand with the reader, whose numbers and places they have. Assumes nothing.
 use mathlib.Core.List.{List, [], _∷_, _++_}
 use Prim.Native.Nat.{ℕ}
 use lib.ListN.{replicate}
-use Rattle.base64.specs.Lists.{All}
 use Rattle.grammar.specs.Message.{Message}
 use Rattle.grammar.specs.Bundle.{Item, Bundle}
 use Rattle.grammar.specs.declared.Grammar.{Grammar}
 use Rattle.grammar.specs.declared.Grammar.the-variants.{Lax, Standard, Strict}
-
--- What a grammar makes of a text: a message with the label "A" and this data, or no message.
-pub data Outcome : Type 0 where
-  accepted : List ℕ → Outcome
-  refused : Outcome
-
-abbrev pub Holds : Grammar → List ℕ → Outcome → Type 0
-Holds g text (accepted content) = Message g text (65 ∷ []) content
-Holds g text refused = (label content : List ℕ) → ¬ Message g text label content
-
--- A row: a text and its outcome under each grammar.
-pub record Row : Type 0 where
-  pub text : List ℕ
-  pub lax : Outcome
-  pub standard : Outcome
-  pub strict : Outcome
-
-abbrev pub RowHolds : Row → Type 0
-RowHolds r = Holds Lax (r .text) (r .lax) × Holds Standard (r .text) (r .standard) × Holds Strict (r .text) (r .strict)
 
 -- "-----BEGIN A-----", "-----END A-----" and "-----END B-----".
 abbrev pub beginA : List ℕ
@@ -55,37 +35,6 @@ M = around (10 ∷ 90 ∷ 103 ∷ 61 ∷ 61 ∷ 10 ∷ [])
 abbrev pub unendedM : List ℕ
 unendedM = beginA ++ (10 ∷ 90 ∷ 103 ∷ 61 ∷ 61 ∷ 10 ∷ endA)
 
-abbrev pub row : List ℕ → Outcome → Outcome → Outcome → Row
-row text lax standard strict = record { text = text; lax = lax; standard = standard; strict = strict }
-
-abbrev pub rows : List Row
-rows =
-    -- M
-    row M (accepted (102 ∷ [])) (accepted (102 ∷ [])) (accepted (102 ∷ []))
-    -- M with `Zh==`
-    ∷ row (around (10 ∷ 90 ∷ 104 ∷ 61 ∷ 61 ∷ 10 ∷ [])) (accepted (102 ∷ [])) (accepted (102 ∷ [])) refused
-    -- M without last LF
-    ∷ row unendedM (accepted (102 ∷ [])) (accepted (102 ∷ [])) refused
-    -- M without `Zg==` and its LF
-    ∷ row (around (10 ∷ [])) (accepted []) refused refused
-    -- M with LF for `Zg==` and its LF
-    ∷ row (around (10 ∷ 10 ∷ [])) (accepted []) (accepted []) refused
-    -- fourth row, first LF now CRLF
-    ∷ row (around (13 ∷ 10 ∷ [])) (accepted []) refused refused
-    -- M with `Zg=`
-    ∷ row (around (10 ∷ 90 ∷ 103 ∷ 61 ∷ 10 ∷ [])) refused refused refused
-    -- M with `Zm 9v`
-    ∷ row (around (10 ∷ 90 ∷ 109 ∷ 32 ∷ 57 ∷ 118 ∷ 10 ∷ [])) (accepted (102 ∷ 111 ∷ 111 ∷ [])) refused refused
-    -- M with `Zg=`, LF, `=`
-    ∷ row (around (10 ∷ 90 ∷ 103 ∷ 61 ∷ 10 ∷ 61 ∷ 10 ∷ [])) (accepted (102 ∷ [])) refused refused
-    -- M closing with B
-    ∷ row (beginA ++ (10 ∷ 90 ∷ 103 ∷ 61 ∷ 61 ∷ 10 ∷ (endB ++ (10 ∷ [])))) refused refused refused
-    -- M, sixth hyphen on opening
-    ∷ row (around (45 ∷ 10 ∷ 90 ∷ 103 ∷ 61 ∷ 61 ∷ 10 ∷ [])) refused refused refused
-    -- empty text
-    ∷ row [] refused refused refused
-    ∷ []
-
 -- An item: "A" with the one byte 66 hex.
 abbrev pub itemA : Item
 itemA = record { label = 65 ∷ []; content = 102 ∷ [] }
@@ -95,15 +44,17 @@ BundleRefused g text = (list : List Item) (table : List ℕ) → ¬ Bundle g tex
 
 -- The claim.
 pub record Samples : Type 0 where
-  -- every row marked *
-  pub starred : All RowHolds rows
+  -- M with `Zh==`: its spare bits are not zero, which strict asks
+  pub spareBits : (label content : List ℕ) → ¬ Message Strict (around (10 ∷ 90 ∷ 104 ∷ 61 ∷ 61 ∷ 10 ∷ [])) label content
+  -- M closing with B: the labels differ
+  pub labelsDiffer : (label content : List ℕ) → ¬ Message Lax (beginA ++ (10 ∷ 90 ∷ 103 ∷ 61 ∷ 61 ∷ 10 ∷ (endB ++ (10 ∷ [])))) label content
   -- a label with a hyphen inside
   pub hyphenLabel : Message Strict (beginAB ++ (10 ∷ 90 ∷ 103 ∷ 61 ∷ 61 ∷ 10 ∷ (endAB ++ (10 ∷ [])))) (65 ∷ 45 ∷ 66 ∷ []) (102 ∷ [])
   -- a line of 64 characters before a last line, and as the last line
-  pub fullLine : Holds Strict (around (10 ∷ (replicate 64 65 ++ (10 ∷ 90 ∷ 103 ∷ 61 ∷ 61 ∷ 10 ∷ [])))) (accepted (replicate 48 0 ++ (102 ∷ [])))
-  pub fullLastLine : Holds Strict (around (10 ∷ (replicate 64 65 ++ (10 ∷ [])))) (accepted (replicate 48 0))
+  pub fullLine : Message Strict (around (10 ∷ (replicate 64 65 ++ (10 ∷ 90 ∷ 103 ∷ 61 ∷ 61 ∷ 10 ∷ [])))) (65 ∷ []) (replicate 48 0 ++ (102 ∷ []))
+  pub fullLastLine : Message Strict (around (10 ∷ (replicate 64 65 ++ (10 ∷ [])))) (65 ∷ []) (replicate 48 0)
   -- a first line of 65 characters, whatever follows it
-  pub longLine : (rest : List ℕ) → Holds Strict (beginA ++ (10 ∷ (replicate 65 65 ++ rest))) refused
+  pub longLine : (rest label content : List ℕ) → ¬ Message Strict (beginA ++ (10 ∷ (replicate 65 65 ++ rest))) label content
   -- M once and twice, under every grammar
   pub once : (g : Grammar) → Bundle g M (itemA ∷ []) (1 ∷ 0 ∷ 39 ∷ 11 ∷ 1 ∷ 1 ∷ [])
   pub twice : (g : Grammar) → Bundle g (M ++ M) (itemA ∷ itemA ∷ []) (2 ∷ 0 ∷ 39 ∷ 11 ∷ 1 ∷ 1 ∷ 39 ∷ 39 ∷ 50 ∷ 1 ∷ 1 ∷ [])

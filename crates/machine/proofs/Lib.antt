@@ -13,3 +13,4 @@ pub mod Boundaries
 pub mod Messages
 pub mod Acceptance
 pub mod Starts
+pub mod Bundles

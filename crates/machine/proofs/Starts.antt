@@ -131,21 +131,28 @@ run-range : (g : Grammar) (s : State) (l : List ℕ) → InRange (s .phase) → 
 run-range g s [] h = h
 run-range g s (c ∷ l) h = run-range g (step g s c) l (step-range g s c h)
 
-start-range : (g : Grammar) → InRange ((start g) .phase)
+pub start-range : (g : Grammar) → InRange ((start g) .phase)
 start-range grammar.Lax = tt
 start-range grammar.Standard = omega arith
 start-range grammar.Strict = omega arith
 
 -- ---- It lives exactly on the starts
 
+-- Where it lives, some list leads on to the end.
+pub lives-ends : (g : Grammar) (s : State) → InRange (s .phase) → (l : List ℕ) → (run g s l) .phase ≢ Dead
+    → Begins (λ t. accepting ((run g s t) .phase) ≡ true) l
+lives-ends g s r l n =
+    let w : ToEnd g (run g s l) = state-way g ((run g s l) .phase) ((run g s l) .cr) (run-range g s l r) n in
+    record { rest = w .bytes; whole = ap (λ u. accepting (u .phase)) (run-append g s l (w .bytes)) ∙ w .ends }
+
 pub lives-begins : (g : Grammar) (l : List ℕ) → (run g (start g) l) .phase ≢ Dead → Begins (Parse g) l
 lives-begins g l n =
-    let s : State = run g (start g) l in
-    let w : ToEnd g s = state-way g (s .phase) (s .cr) (run-range g (start g) l (start-range g)) n in
-    let p : Parsed g (l ++ w .bytes) = accepted-parses g (l ++ w .bytes) (ap (λ u. accepting (u .phase)) (run-append g (start g) l (w .bytes)) ∙ w .ends) in
-    record { rest = w .bytes; whole = record { reading = p .reading; joined = p .joined; shape = p .shape } }
+    let b = lives-ends g (start g) (start-range g) l n in
+    let p : Parsed g (l ++ b .rest) = accepted-parses g (l ++ b .rest) (b .whole) in
+    record { rest = b .rest; whole = record { reading = p .reading; joined = p .joined; shape = p .shape } }
 
-dead-run : (g : Grammar) (s : State) (l : List ℕ) → s .phase ≡ Dead → (run g s l) .phase ≡ Dead
+-- Dead stays dead, from any state.
+pub dead-run : (g : Grammar) (s : State) (l : List ℕ) → s .phase ≡ Dead → (run g s l) .phase ≡ Dead
 dead-run g s l e = ap (λ p. (run g (state p (s .cr)) l) .phase) e ∙ dead-stays g (s .cr) l
 
 pub begins-lives : (g : Grammar) (l : List ℕ) → Begins (Parse g) l → (run g (start g) l) .phase ≢ Dead

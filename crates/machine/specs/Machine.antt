@@ -293,3 +293,7 @@ accepting (Lax p) = isAfter (laxPart p)
 accepting (Standard p) = isAfter (standardPart p)
 accepting (Strict p) = strictAccepting p
 accepting Dead = false
+
+-- Where a later message of a bundle starts.
+abbrev pub later : State
+later = state (Word Opening 0) false

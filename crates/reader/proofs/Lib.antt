@@ -6,3 +6,4 @@ pub mod Checks
 pub mod Whole
 pub mod Meaning
 pub mod Scans
+pub mod Samples

@@ -3,7 +3,6 @@ use Prim.Native.Nat.{ℕ}
 use Rattle.base64.specs.declared.ByteCount.{ByteCount}
 use Rattle.grammar.specs.declared.TextOffset.{TextOffset}
 use Rattle.reader.specs.declared.Span.{Span}
-use Rattle.reader.specs.declared.Found.{Found}
 use Rattle.reader.specs.declared.Refusal.{Refusal}
 use Rattle.reader.specs.declared.Refusal.the-variants.{UnknownGrammar, TextTooLong, BadOpening, BadBody, BadClosing, LabelTooLong, LabelsDiffer, BadCounts, SpareBits}
 use Rattle.reader.specs.declared.ReadAnswer.{ReadAnswer}

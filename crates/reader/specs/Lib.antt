@@ -5,3 +5,4 @@ pub mod Meaning
 pub mod Data
 pub mod Scan
 pub mod Read
+pub mod Samples

@@ -1,7 +1,7 @@
 -- What `read` and `label` answer, as functions of the text, the grammar's number and the output's length alone, check by
 -- check in the requirements' order. Assumes nothing. None of this has to be believed: see `Meaning`.
 use mathlib.Core.Bool.{Bool, true, false, cond}
-use mathlib.Core.List.{List, [], _∷_, _++_}
+use mathlib.Core.List.{List, [], _++_}
 use Prim.Native.Nat.{ℕ, _+_, _*_, _-_, _/_, _%_, _^_, _≤_, _<_}
 use lib.Dec.{eqb, ltb}
 use lib.ListN.{length, take, drop, getD, replicate}
@@ -15,7 +15,6 @@ use Rattle.grammar.specs.declared.Grammar.{Grammar}
 use Rattle.grammar.specs.declared.Grammar.the-variants.{Lax, Standard, Strict}
 use Rattle.grammar.specs.declared.Numbered.{Numbered}
 use Rattle.grammar.specs.declared.Numbered.the-variants.{Known, Unknown}
-use Rattle.grammar.specs.declared.TextOffset.{TextOffset}
 use Rattle.machine.specs.Machine.{start, partOf, accepting}
 use Rattle.machine.specs.declared.Part.{Part}
 use Rattle.machine.specs.declared.Part.the-variants as part

@@ -2,7 +2,7 @@
 use mathlib.Core.List.{List, [], _∷_}
 use Prim.Native.Nat.{ℕ}
 use lib.ListN.{getD, take, drop}
-use Rattle.reader.specs.Answers.{refusalNumber, refusalPlace, numberOf, placeOf, sizeOf, labelOffsetOf, labelLengthOf}
+use Rattle.reader.specs.Answers.{numberOf, placeOf, sizeOf, labelOffsetOf, labelLengthOf}
 use Rattle.reader.specs.Read.{judgeOf}
 use Rattle.reader.specs.declared.Found.{Found}
 use Rattle.reader.specs.declared.Judgement.{Judgement}

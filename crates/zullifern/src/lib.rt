@@ -69,14 +69,7 @@ fn label_report(judgement: Judgement) -> [u64; 8]
 fn put_report(values: [u64; 8], report: &mut [u64; 8])
     ensures { λ _. ⌜ now (report .exit) ≡ values ⌝ }
 {
-    report[0] = values[0];
-    report[1] = values[1];
-    report[2] = values[2];
-    report[3] = values[3];
-    report[4] = values[4];
-    report[5] = values[5];
-    report[6] = values[6];
-    report[7] = values[7];
+    *report = values;
 }
 
 // Reads a text that is to be one message of the grammar of this number, and answers the number. After 0 the output holds the
