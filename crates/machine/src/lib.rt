@@ -4,7 +4,7 @@
 ghost use mathlib.Core.Path.{_≡_};
 ghost use lib.ListN.{length, getD};
 ghost use Rattle.machine.specs.Kinds.{kindOf, otherKind};
-ghost use Rattle.machine.specs.Machine.{wordOf, wordStep, labelRow, labelTarget, lineEnd, lineChar, linePad, laxRow, standardRow, strictRow, target, behind, labelled, beforeStep, next, step, start, accepting, strictAccepting, isAfter, dead, bytePart, boundaryPart, laxPart, standardPart, strictPart, partOf};
+ghost use Rattle.machine.specs.Machine.{wordOf, wordStep, labelRow, labelTarget, lineEnd, lineChar, linePad, row, laxRow, standardRow, strictRow, target, behind, labelled, beforeStep, next, step, start, accepting, strictAccepting, isAfter, dead, bytePart, boundaryPart, laxPart, standardPart, strictPart, partOf};
 use base64::PAD;
 use base64::Value;
 use base64::value_of;
@@ -409,241 +409,101 @@ fn line_pad(room: u8) -> Phase
     Phase::Dead
 }
 
-// The ways on under lax.
+// The ways on from a phase.
+fn ways(blank: Phase, feed: Phase, end: Phase, alphabet: Phase, pad: Phase, hyphen: Phase) -> Row
+    ensures { λ r. ⌜ r ≡ row blank feed end alphabet pad hyphen ⌝ }
+{
+    Row {
+        blank,
+        feed,
+        end,
+        alphabet,
+        pad,
+        hyphen,
+    }
+}
+
+// The ways on under lax: by a blank, VT or FF, a line end, an alphabet character, a pad, a hyphen.
 fn lax_row(phase: LaxPhase) -> Row
     ensures { λ r. ⌜ r ≡ laxRow phase ⌝ }
 {
     let dead = Phase::Dead;
+    let closing = Phase::Word(Boundary::Closing, 1);
+    let data = Phase::Lax(LaxPhase::Data);
+    let one_pad = Phase::Lax(LaxPhase::OnePad);
+    let two_pads = Phase::Lax(LaxPhase::TwoPads);
+    let closed = Phase::Lax(LaxPhase::Closed);
     match phase {
-        LaxPhase::Data => {
-            let data = Phase::Lax(LaxPhase::Data);
-            Row {
-                blank: data,
-                feed: data,
-                end: data,
-                alphabet: data,
-                pad: Phase::Lax(LaxPhase::OnePad),
-                hyphen: Phase::Word(Boundary::Closing, 1),
-            }
-        }
-        LaxPhase::OnePad => {
-            let one_pad = Phase::Lax(LaxPhase::OnePad);
-            Row {
-                blank: one_pad,
-                feed: one_pad,
-                end: one_pad,
-                alphabet: dead,
-                pad: Phase::Lax(LaxPhase::TwoPads),
-                hyphen: Phase::Word(Boundary::Closing, 1),
-            }
-        }
-        LaxPhase::TwoPads => {
-            let two_pads = Phase::Lax(LaxPhase::TwoPads);
-            Row {
-                blank: two_pads,
-                feed: two_pads,
-                end: two_pads,
-                alphabet: dead,
-                pad: dead,
-                hyphen: Phase::Word(Boundary::Closing, 1),
-            }
-        }
-        LaxPhase::Closed => {
-            let closed = Phase::Lax(LaxPhase::Closed);
-            Row {
-                blank: closed,
-                feed: closed,
-                end: closed,
-                alphabet: dead,
-                pad: dead,
-                hyphen: dead,
-            }
-        }
+        LaxPhase::Data => ways(data, data, data, data, one_pad, closing),
+        LaxPhase::OnePad => ways(one_pad, one_pad, one_pad, dead, two_pads, closing),
+        LaxPhase::TwoPads => ways(two_pads, two_pads, two_pads, dead, dead, closing),
+        LaxPhase::Closed => ways(closed, closed, closed, dead, dead, dead),
     }
 }
 
-// The ways on under standard.
+// The ways on under standard: by a blank, VT or FF, a line end, an alphabet character, a pad, a hyphen.
 fn standard_row(phase: StandardPhase) -> Row
     ensures { λ r. ⌜ r ≡ standardRow phase ⌝ }
 {
     let dead = Phase::Dead;
+    let closing = Phase::Word(Boundary::Closing, 1);
+    let opened = Phase::Standard(StandardPhase::Opened);
+    let leading = Phase::Standard(StandardPhase::Leading);
+    let blank_line = Phase::Standard(StandardPhase::BlankLine);
+    let data = Phase::Standard(StandardPhase::Data);
+    let one_pad = Phase::Standard(StandardPhase::OnePad);
+    let trailing = Phase::Standard(StandardPhase::Trailing);
+    let line = Phase::Standard(StandardPhase::Line);
+    let ending = Phase::Standard(StandardPhase::Ending);
+    let final_line = Phase::Standard(StandardPhase::Final);
+    let closed = Phase::Standard(StandardPhase::Closed);
+    let ended = Phase::Standard(StandardPhase::Ended);
     match phase {
-        StandardPhase::Opened => Row {
-            blank: Phase::Standard(StandardPhase::Opened),
-            feed: dead,
-            end: Phase::Standard(StandardPhase::Leading),
-            alphabet: dead,
-            pad: dead,
-            hyphen: dead,
-        },
-        StandardPhase::Leading => Row {
-            blank: Phase::Standard(StandardPhase::Leading),
-            feed: dead,
-            end: Phase::Standard(StandardPhase::BlankLine),
-            alphabet: Phase::Standard(StandardPhase::Data),
-            pad: Phase::Standard(StandardPhase::OnePad),
-            hyphen: dead,
-        },
-        StandardPhase::BlankLine => Row {
-            blank: Phase::Standard(StandardPhase::Leading),
-            feed: dead,
-            end: Phase::Standard(StandardPhase::BlankLine),
-            alphabet: Phase::Standard(StandardPhase::Data),
-            pad: Phase::Standard(StandardPhase::OnePad),
-            hyphen: Phase::Word(Boundary::Closing, 1),
-        },
-        StandardPhase::Data => Row {
-            blank: Phase::Standard(StandardPhase::Trailing),
-            feed: dead,
-            end: Phase::Standard(StandardPhase::Line),
-            alphabet: Phase::Standard(StandardPhase::Data),
-            pad: Phase::Standard(StandardPhase::OnePad),
-            hyphen: dead,
-        },
-        StandardPhase::Trailing => Row {
-            blank: Phase::Standard(StandardPhase::Trailing),
-            feed: dead,
-            end: Phase::Standard(StandardPhase::Line),
-            alphabet: dead,
-            pad: dead,
-            hyphen: dead,
-        },
-        StandardPhase::Line => Row {
-            blank: Phase::Standard(StandardPhase::Ending),
-            feed: dead,
-            end: Phase::Standard(StandardPhase::Final),
-            alphabet: Phase::Standard(StandardPhase::Data),
-            pad: Phase::Standard(StandardPhase::OnePad),
-            hyphen: Phase::Word(Boundary::Closing, 1),
-        },
-        StandardPhase::OnePad => Row {
-            blank: Phase::Standard(StandardPhase::Ending),
-            feed: dead,
-            end: Phase::Standard(StandardPhase::Final),
-            alphabet: dead,
-            pad: Phase::Standard(StandardPhase::Ending),
-            hyphen: dead,
-        },
-        StandardPhase::Ending => Row {
-            blank: Phase::Standard(StandardPhase::Ending),
-            feed: dead,
-            end: Phase::Standard(StandardPhase::Final),
-            alphabet: dead,
-            pad: dead,
-            hyphen: dead,
-        },
-        StandardPhase::Final => Row {
-            blank: dead,
-            feed: dead,
-            end: dead,
-            alphabet: dead,
-            pad: dead,
-            hyphen: Phase::Word(Boundary::Closing, 1),
-        },
-        StandardPhase::Closed => Row {
-            blank: Phase::Standard(StandardPhase::Closed),
-            feed: dead,
-            end: Phase::Standard(StandardPhase::Ended),
-            alphabet: dead,
-            pad: dead,
-            hyphen: dead,
-        },
-        StandardPhase::Ended => Row {
-            blank: dead,
-            feed: dead,
-            end: dead,
-            alphabet: dead,
-            pad: dead,
-            hyphen: dead,
-        },
+        StandardPhase::Opened => ways(opened, dead, leading, dead, dead, dead),
+        StandardPhase::Leading => ways(leading, dead, blank_line, data, one_pad, dead),
+        StandardPhase::BlankLine => ways(leading, dead, blank_line, data, one_pad, closing),
+        StandardPhase::Data => ways(trailing, dead, line, data, one_pad, dead),
+        StandardPhase::Trailing => ways(trailing, dead, line, dead, dead, dead),
+        StandardPhase::Line => ways(ending, dead, final_line, data, one_pad, closing),
+        StandardPhase::OnePad => ways(ending, dead, final_line, dead, ending, dead),
+        StandardPhase::Ending => ways(ending, dead, final_line, dead, dead, dead),
+        StandardPhase::Final => ways(dead, dead, dead, dead, dead, closing),
+        StandardPhase::Closed => ways(closed, dead, ended, dead, dead, dead),
+        StandardPhase::Ended => ways(dead, dead, dead, dead, dead, dead),
     }
 }
 
-// The ways on under strict.
+// The ways on under strict: by a blank, VT or FF, a line end, an alphabet character, a pad, a hyphen.
 fn strict_row(phase: StrictPhase) -> Row
     ensures { λ r. ⌜ r ≡ strictRow phase ⌝ }
 {
     let dead = Phase::Dead;
+    let closing = Phase::Word(Boundary::Closing, 1);
+    let first = Phase::Strict(StrictPhase::First);
+    let padded = Phase::Strict(StrictPhase::Padded);
+    let final_line = Phase::Strict(StrictPhase::Final);
+    let ended = Phase::Strict(StrictPhase::Ended);
+    let data = Phase::Strict(StrictPhase::Data(LINE_ROOM));
     match phase {
-        StrictPhase::Opened => Row {
-            blank: dead,
-            feed: dead,
-            end: Phase::Strict(StrictPhase::First),
-            alphabet: dead,
-            pad: dead,
-            hyphen: dead,
-        },
-        StrictPhase::First => Row {
-            blank: dead,
-            feed: dead,
-            end: dead,
-            alphabet: Phase::Strict(StrictPhase::Data(LINE_ROOM)),
-            pad: dead,
-            hyphen: dead,
-        },
-        StrictPhase::Line => Row {
-            blank: dead,
-            feed: dead,
-            end: dead,
-            alphabet: Phase::Strict(StrictPhase::Data(LINE_ROOM)),
-            pad: dead,
-            hyphen: Phase::Word(Boundary::Closing, 1),
-        },
-        StrictPhase::Data(room) => {
-            let end = line_end(room);
-            let alphabet = line_char(room);
-            let pad = line_pad(room);
-            Row {
-                blank: dead,
-                feed: dead,
-                end,
-                alphabet,
-                pad,
-                hyphen: dead,
-            }
-        }
-        StrictPhase::OnePad => Row {
-            blank: dead,
-            feed: dead,
-            end: dead,
-            alphabet: dead,
-            pad: Phase::Strict(StrictPhase::Padded),
-            hyphen: dead,
-        },
-        StrictPhase::Padded => Row {
-            blank: dead,
-            feed: dead,
-            end: Phase::Strict(StrictPhase::Final),
-            alphabet: dead,
-            pad: dead,
-            hyphen: dead,
-        },
-        StrictPhase::Final => Row {
-            blank: dead,
-            feed: dead,
-            end: dead,
-            alphabet: dead,
-            pad: dead,
-            hyphen: Phase::Word(Boundary::Closing, 1),
-        },
-        StrictPhase::Closed => Row {
-            blank: dead,
-            feed: dead,
-            end: Phase::Strict(StrictPhase::Ended),
-            alphabet: dead,
-            pad: dead,
-            hyphen: dead,
-        },
-        StrictPhase::Ended => Row {
-            blank: dead,
-            feed: dead,
-            end: dead,
-            alphabet: dead,
-            pad: dead,
-            hyphen: dead,
-        },
+        StrictPhase::Opened => ways(dead, dead, first, dead, dead, dead),
+        StrictPhase::First => ways(dead, dead, dead, data, dead, dead),
+        StrictPhase::Line => ways(dead, dead, dead, data, dead, closing),
+        StrictPhase::Data(room) => ways(
+            dead,
+            dead,
+            line_end(room),
+            line_char(room),
+            line_pad(room),
+            dead,
+        ),
+        StrictPhase::OnePad => ways(dead, dead, dead, dead, padded, dead),
+        StrictPhase::Padded => ways(dead, dead, final_line, dead, dead, dead),
+        StrictPhase::Final => ways(dead, dead, dead, dead, dead, closing),
+        StrictPhase::Closed => ways(dead, dead, ended, dead, dead, dead),
+        StrictPhase::Ended => ways(dead, dead, dead, dead, dead, dead),
     }
 }
+
 // The way on that a kind of byte takes.
 fn row_target(row: Row, kind: Kind) -> Phase
     ensures { λ r. ⌜ r ≡ target row kind ⌝ }
