@@ -1,5 +1,5 @@
 // Reading one message: the scan of a text, the checks 1 to 10, the data and the label.
-// The definitions that the contracts cite stand in specs/; specs/Meaning says in relations what a caller gets.
+// The definitions that the contracts cite stand in the crate `reading`.
 ghost use mathlib.Core.Path.{_≡_};
 ghost use mathlib.Core.List.{_++_};
 ghost use Prim.Native.Nat.{_+_, _*_, _-_, _^_, _≤_, _<_, _/_};
@@ -7,15 +7,15 @@ ghost use lib.ListN.{length, drop, replicate};
 ghost use Rattle.base64.specs.Alphabet.{Sextet, valueOf};
 ghost use Rattle.base64.specs.Groups.{decode};
 ghost use Rattle.grammar.specs.Message.{characters};
-ghost use Rattle.reader.specs.Data.{sameBytes, HoldsValue, fed, fedByte, spareOf};
+ghost use Rattle.reading.specs.Data.{sameBytes, HoldsValue, fed, fedByte, spareOf};
 ghost use Rattle.grammar.specs.Marks.{begin, end, hyphens};
 ghost use Rattle.grammar.specs.declared.Numbered.the-variants.{Known};
 ghost use Rattle.machine.specs.Machine.{start};
-ghost use Rattle.reader.specs.Limits.{textLimit, labelLimit};
-ghost use Rattle.reader.specs.Answers.{refusalNumber, refusalPlace, numberOf};
-ghost use Rattle.reader.specs.Meaning.{Reads, HandsBack};
-ghost use Rattle.reader.specs.Scan.{noTally, bodyTallied, tallied, scanOf};
-ghost use Rattle.reader.specs.Read.{Roomy, Fits, Lies, spanned, layoutOf, grammarRefusal, labelsAgree, countsFit, lastAt, spareClear, judgedParts, judgedScan, judgedBy, judgeOf, readOf, outputOf, labelOf};
+ghost use Rattle.reading.specs.Limits.{textLimit, labelLimit};
+ghost use Rattle.reading.specs.Answers.{refusalNumber, refusalPlace, numberOf};
+ghost use Rattle.reading.specs.Meaning.{Reads, HandsBack};
+ghost use Rattle.reading.specs.Scan.{noTally, bodyTallied, tallied, scanOf};
+ghost use Rattle.reading.specs.Read.{Roomy, Fits, Lies, spanned, layoutOf, grammarRefusal, labelsAgree, countsFit, lastAt, spareClear, judgedParts, judgedScan, judgedBy, judgeOf, readOf, outputOf, labelOf};
 use base64::ByteCount;
 use base64::Value;
 use grammar::Grammar;
@@ -23,8 +23,17 @@ use grammar::Numbered;
 use grammar::TextOffset;
 use machine::Kind;
 use machine::Part;
-use machine::Phase;
 use machine::State;
+use reading::Fed;
+use reading::Found;
+use reading::Judgement;
+use reading::Layout;
+use reading::Open;
+use reading::ReadAnswer;
+use reading::Refusal;
+use reading::Scan;
+use reading::Span;
+use reading::Tally;
 
 // The longest text and the longest label that are read, in bytes.
 pub const TEXT_LIMIT: usize = 65536;
@@ -35,89 +44,6 @@ pub const LABEL_LIMIT: usize = 64;
 const OPENING_FRAME: usize = 16;
 
 const CLOSING_FRAME: usize = 14;
-
-// How many bytes of a message each part has, and of its body how many alphabet characters, how many pads, and how many bytes
-// before its last alphabet character.
-pub struct Tally {
-    pub before: usize,
-    pub opening: usize,
-    pub body: usize,
-    pub closing: usize,
-    pub characters: usize,
-    pub pads: usize,
-    pub last: usize,
-}
-
-// A text, read from an offset to the first byte that no text of the grammar could have there, or to its end: the last phase,
-// how many bytes were read, and what they were.
-pub struct Scan {
-    pub phase: Phase,
-    pub length: usize,
-    pub tally: Tally,
-}
-
-// A part of a text: where it starts, and how many bytes of the text it has.
-pub struct Span {
-    pub at: TextOffset,
-    pub length: usize,
-}
-
-// Where the parts of a message are: the opening's label, the body, the first hyphen of the closing, and the closing's label.
-pub struct Layout {
-    pub opened: Span,
-    pub body: Span,
-    pub closing: TextOffset,
-    pub closed: Span,
-}
-
-// The refusals 1 to 9 of the requirements, in their order, with their places.
-pub enum Refusal {
-    UnknownGrammar,
-    TextTooLong,
-    BadOpening(TextOffset),
-    BadBody(TextOffset),
-    BadClosing(TextOffset),
-    LabelTooLong(TextOffset),
-    LabelsDiffer(TextOffset),
-    BadCounts(TextOffset),
-    SpareBits(TextOffset),
-}
-
-// The checks 1 to 9: all passed, by a message with this layout and so many bytes of data; or the first that did not.
-pub enum Judgement {
-    Sound(Layout, ByteCount),
-    Refused(Refusal),
-}
-
-// What is reported of a message: how many bytes its data has, and where its label is.
-pub struct Found {
-    pub size: ByteCount,
-    pub label: Span,
-}
-
-// The answer of `read`.
-pub enum ReadAnswer {
-    // 0: the output holds the data, and then zeros.
-    Accepted(Found),
-    // 1 to 9: the output is zeros.
-    Refused(Refusal),
-    // 10: the output is zeros; the size is what the data needs.
-    OutputTooSmall(Found),
-}
-
-// A group of which so many characters were read, with the value of the last one: its low bits start the next byte.
-enum Open {
-    Start,
-    One(u8),
-    Two(u8),
-    Three(u8),
-}
-
-// What the next byte of a body does: it leaves an open group, or completes a byte of the data too.
-enum Fed {
-    Held(Open),
-    Byte(u8, Open),
-}
 
 // Sets every byte to zero.
 pub fn clear(out: &mut [u8])
@@ -282,10 +208,10 @@ pub fn scan_text(text: &[u8], from: TextOffset, grammar: Grammar, first: State) 
     let mut i = begin;
     while i < text.len() {
         let b = text[i];
-        let next = state.step(grammar, b);
+        let next = engine::step(state, grammar, b);
         let before = state.phase;
         let after = next.phase;
-        if machine::is_dead(after) {
+        if engine::is_dead(after) {
             return Scan {
                 phase: before,
                 length: i - begin,
@@ -294,8 +220,8 @@ pub fn scan_text(text: &[u8], from: TextOffset, grammar: Grammar, first: State) 
         }
         tally = tally_byte(
             tally,
-            machine::byte_part(machine::part_of(before), machine::part_of(after)),
-            machine::kind_of(b),
+            engine::byte_part(engine::part_of(before), engine::part_of(after)),
+            engine::kind_of(b),
         );
         state = next;
         i += 1;
@@ -432,11 +358,11 @@ fn judge_scan(text: &[u8], grammar: Grammar, scan: Scan) -> Judgement
     let phase = scan.phase;
     let tally = scan.tally;
     if scan.length == text.len() {
-        if machine::is_accepting(phase) {
+        if engine::is_accepting(phase) {
             return judge_parts(text, grammar, lay_out(TextOffset(0), tally), tally);
         }
     }
-    Judgement::Refused(grammar_refusal(machine::part_of(phase), TextOffset(scan.length)))
+    Judgement::Refused(grammar_refusal(engine::part_of(phase), TextOffset(scan.length)))
 }
 
 // The checks 2 to 9.
@@ -449,7 +375,7 @@ fn judge_known(text: &[u8], grammar: Grammar) -> Judgement
     judge_scan(
         text,
         grammar,
-        scan_text(text, TextOffset(0), grammar, State::start(grammar)),
+        scan_text(text, TextOffset(0), grammar, engine::start(grammar)),
     )
 }
 
@@ -499,51 +425,47 @@ pub fn label(text: &[u8], grammar: u32) -> &[u8]
     }
 }
 
-impl Refusal {
-    // The requirements' number.
-    pub fn number(self) -> u32
-        ensures { λ r. ⌜ r ≡ refusalNumber self ⌝ }
-    {
-        match self {
-            Refusal::UnknownGrammar => 1,
-            Refusal::TextTooLong => 2,
-            Refusal::BadOpening(_) => 3,
-            Refusal::BadBody(_) => 4,
-            Refusal::BadClosing(_) => 5,
-            Refusal::LabelTooLong(_) => 6,
-            Refusal::LabelsDiffer(_) => 7,
-            Refusal::BadCounts(_) => 8,
-            Refusal::SpareBits(_) => 9,
-        }
-    }
-
-    // The place in the text.
-    pub fn place(self) -> TextOffset
-        ensures { λ r. ⌜ r .0 ≡ refusalPlace self ⌝ }
-    {
-        match self {
-            Refusal::UnknownGrammar => TextOffset(0),
-            Refusal::TextTooLong => TextOffset(0),
-            Refusal::BadOpening(place) => place,
-            Refusal::BadBody(place) => place,
-            Refusal::BadClosing(place) => place,
-            Refusal::LabelTooLong(place) => place,
-            Refusal::LabelsDiffer(place) => place,
-            Refusal::BadCounts(place) => place,
-            Refusal::SpareBits(place) => place,
-        }
+// The requirements' number of a refusal.
+pub fn refusal_number(refusal: Refusal) -> u32
+    ensures { λ r. ⌜ r ≡ refusalNumber refusal ⌝ }
+{
+    match refusal {
+        Refusal::UnknownGrammar => 1,
+        Refusal::TextTooLong => 2,
+        Refusal::BadOpening(_) => 3,
+        Refusal::BadBody(_) => 4,
+        Refusal::BadClosing(_) => 5,
+        Refusal::LabelTooLong(_) => 6,
+        Refusal::LabelsDiffer(_) => 7,
+        Refusal::BadCounts(_) => 8,
+        Refusal::SpareBits(_) => 9,
     }
 }
 
-impl ReadAnswer {
-    // The requirements' number.
-    pub fn number(self) -> u32
-        ensures { λ r. ⌜ r ≡ numberOf self ⌝ }
-    {
-        match self {
-            ReadAnswer::Accepted(_) => 0,
-            ReadAnswer::Refused(refusal) => refusal.number(),
-            ReadAnswer::OutputTooSmall(_) => 10,
-        }
+// The place of a refusal in the text.
+pub fn refusal_place(refusal: Refusal) -> TextOffset
+    ensures { λ r. ⌜ r .0 ≡ refusalPlace refusal ⌝ }
+{
+    match refusal {
+        Refusal::UnknownGrammar => TextOffset(0),
+        Refusal::TextTooLong => TextOffset(0),
+        Refusal::BadOpening(place) => place,
+        Refusal::BadBody(place) => place,
+        Refusal::BadClosing(place) => place,
+        Refusal::LabelTooLong(place) => place,
+        Refusal::LabelsDiffer(place) => place,
+        Refusal::BadCounts(place) => place,
+        Refusal::SpareBits(place) => place,
+    }
+}
+
+// The requirements' number of an answer.
+pub fn answer_number(answer: ReadAnswer) -> u32
+    ensures { λ r. ⌜ r ≡ numberOf answer ⌝ }
+{
+    match answer {
+        ReadAnswer::Accepted(_) => 0,
+        ReadAnswer::Refused(refusal) => refusal_number(refusal),
+        ReadAnswer::OutputTooSmall(_) => 10,
     }
 }

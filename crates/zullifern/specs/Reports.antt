@@ -2,14 +2,14 @@
 use mathlib.Core.List.{List, [], _∷_}
 use Prim.Native.Nat.{ℕ}
 use lib.ListN.{getD, take, drop}
-use Rattle.reader.specs.Answers.{numberOf, placeOf, sizeOf, labelOffsetOf, labelLengthOf}
-use Rattle.reader.specs.Read.{judgeOf}
-use Rattle.reader.specs.declared.Found.{Found}
-use Rattle.reader.specs.declared.Judgement.{Judgement}
-use Rattle.reader.specs.declared.Judgement.the-variants as judgement
-use Rattle.reader.specs.declared.ReadAnswer.{ReadAnswer}
-use Rattle.reader.specs.declared.ReadAnswer.the-variants as answer
-use Rattle.reader.specs.declared.Refusal.{Refusal}
+use Rattle.reading.specs.Answers.{numberOf, placeOf, sizeOf, labelOffsetOf, labelLengthOf}
+use Rattle.reading.specs.Read.{judgeOf}
+use Rattle.reading.specs.declared.Found.{Found}
+use Rattle.reading.specs.declared.Judgement.{Judgement}
+use Rattle.reading.specs.declared.Judgement.the-variants as judgement
+use Rattle.reading.specs.declared.ReadAnswer.{ReadAnswer}
+use Rattle.reading.specs.declared.ReadAnswer.the-variants as answer
+use Rattle.reading.specs.declared.Refusal.{Refusal}
 
 abbrev pub report : (number place size at length : ℕ) → List ℕ
 report number place size at length = number ∷ place ∷ size ∷ at ∷ length ∷ 0 ∷ 0 ∷ 0 ∷ []

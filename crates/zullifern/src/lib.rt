@@ -4,21 +4,30 @@
 // three zeros. A slice is handed over as a pointer and a length.
 ghost use mathlib.Core.Path.{_≡_};
 ghost use lib.ListN.{length};
-ghost use Rattle.reader.specs.Answers.{numberOf};
-ghost use Rattle.reader.specs.Meaning.{Reads, HandsBack};
-ghost use Rattle.reader.specs.Read.{readOf, outputOf, judgeOf};
+ghost use Rattle.reading.specs.Answers.{numberOf};
+ghost use Rattle.reading.specs.Meaning.{Reads, HandsBack};
+ghost use Rattle.reading.specs.Read.{readOf, outputOf, judgeOf};
 ghost use Rattle.zullifern.specs.Reports.{readReport, refusalReport, foundReport, labelReport, judgedReport, reportedPart};
-use reader::Found;
-use reader::Judgement;
-use reader::ReadAnswer;
-use reader::Refusal;
+use reading::Found;
+use reading::Judgement;
+use reading::ReadAnswer;
+use reading::Refusal;
 
 // The report of a refusal 1 to 9.
 fn refusal_report(refusal: Refusal) -> [u64; 8]
     ensures { λ r. ⌜ r ≡ refusalReport refusal ⌝ }
 {
-    let place = refusal.place();
-    [refusal.number() as u64, place.0 as u64, 0, 0, 0, 0, 0, 0]
+    let place = reader::refusal_place(refusal);
+    [
+        reader::refusal_number(refusal) as u64,
+        place.0 as u64,
+        0,
+        0,
+        0,
+        0,
+        0,
+        0,
+    ]
 }
 
 // The report of a message that was found, under the number 0 or 10.
@@ -85,7 +94,7 @@ pub extern "C" fn zullifern_read(
 {
     let answer = reader::read(text, grammar, out);
     put_report(read_report(answer), report);
-    answer.number()
+    reader::answer_number(answer)
 }
 
 // The opening label's part of the text: its offset and its length stand in the report's slots 3 and 4, and the call answers

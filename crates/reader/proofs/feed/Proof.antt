@@ -3,7 +3,7 @@ use mathlib.Core.Path.{subst}
 use native.Mathlib.Omega.{arith}
 use borrow.Author.Needs.{needs}
 use Rattle.base64.specs.Alphabet.{Sextet}
-use Rattle.reader.specs.Data.{HoldsValue}
+use Rattle.reading.specs.Data.{HoldsValue}
 use Rattle.reader.proofs.feed.Statement.{statement}
 use Rattle.reader.proofs.feed.Tie as tie
 

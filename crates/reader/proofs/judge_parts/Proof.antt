@@ -4,9 +4,9 @@ use mathlib.Core.Bool.{Bool, true, false, not}
 use lib.Dec.{ltb}
 use borrow.Author.Tests.{lt-ltb, le-ltb, not-true, not-false}
 use borrow.Author.Needs.{needs}
-use Rattle.reader.specs.Limits.{labelLimit}
-use Rattle.reader.specs.Answers.{byteCount}
-use Rattle.reader.specs.Read.{labelsAgree, countsFit, spareClear}
+use Rattle.reading.specs.Limits.{labelLimit}
+use Rattle.reading.specs.Answers.{byteCount}
+use Rattle.reading.specs.Read.{labelsAgree, countsFit, spareClear}
 use Rattle.reader.proofs.judge_parts.Statement.{statement}
 use Rattle.reader.proofs.judge_parts.Tie as tie
 

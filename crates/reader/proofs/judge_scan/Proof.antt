@@ -10,10 +10,10 @@ use borrow.Author.Tests.{eq-eqb, ne-eqb}
 use borrow.Author.Needs.{needs}
 use Rattle.grammar.specs.declared.Grammar.{Grammar}
 use Rattle.machine.specs.Machine.{start, accepting}
-use Rattle.reader.specs.Scan.{noTally, scanOf}
-use Rattle.reader.specs.Read.{isWhole}
-use Rattle.reader.specs.declared.Scan.{Scan}
-use Rattle.reader.proofs.Meaning.{WholeFits, whole-fits}
+use Rattle.reading.specs.Scan.{noTally, scanOf}
+use Rattle.reading.specs.Read.{isWhole}
+use Rattle.reading.specs.declared.Scan.{Scan}
+use Rattle.reading.proofs.Meaning.{WholeFits, whole-fits}
 use Rattle.reader.proofs.judge_scan.Statement.{statement}
 use Rattle.reader.proofs.judge_scan.Tie as tie
 

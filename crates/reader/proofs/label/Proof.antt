@@ -3,11 +3,11 @@ use mathlib.Core.Path.{_≡_, refl, sym, ap, subst, _∙_}
 use mathlib.Core.List.{List}
 use Prim.Native.Nat.{ℕ}
 use borrow.Author.Needs.{needs}
-use Rattle.reader.specs.Meaning.{HandsBack}
-use Rattle.reader.specs.Read.{judgeOf, labelIn, labelOf}
-use Rattle.reader.specs.declared.Judgement.{Judgement}
-use Rattle.reader.specs.declared.Judgement.the-variants.{Sound}
-use Rattle.reader.proofs.Meaning.{sound-fits, label-means}
+use Rattle.reading.specs.Meaning.{HandsBack}
+use Rattle.reading.specs.Read.{judgeOf, labelIn, labelOf}
+use Rattle.reading.specs.declared.Judgement.{Judgement}
+use Rattle.reading.specs.declared.Judgement.the-variants.{Sound}
+use Rattle.reading.proofs.Meaning.{sound-fits, label-means}
 use Rattle.reader.proofs.label.Statement.{statement}
 use Rattle.reader.proofs.label.Tie as tie
 

@@ -1,7 +1,7 @@
 -- `reader::lay_out` meets its contract. Assumes nothing.
 use mathlib.Core.Path.{_≡_, ap}
 use borrow.Author.Needs.{needs}
-use Rattle.reader.specs.Answers.{offset}
+use Rattle.reading.specs.Answers.{offset}
 use Rattle.reader.proofs.lay_out.Statement.{statement}
 use Rattle.reader.proofs.lay_out.Tie as tie
 

@@ -6,7 +6,7 @@ use Prim.Native.Nat.{_-_, _≤_}
 use native.Mathlib.Omega.{arith}
 use lib.ListN.{length, length-set}
 use borrow.Author.Needs.{needs}
-use Rattle.reader.proofs.Data.{Writing, writing-start, writing-held, writing-room, writing-given, writing-end}
+use Rattle.reading.proofs.Data.{Writing, writing-start, writing-held, writing-room, writing-given, writing-end}
 use Rattle.reader.proofs.put_data.Statement.{statement}
 use Rattle.reader.proofs.put_data.Tie as tie
 

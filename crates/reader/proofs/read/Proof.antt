@@ -5,12 +5,12 @@ use Prim.Native.Nat.{ℕ}
 use native.Mathlib.Omega.{arith}
 use borrow.Author.Tests.{lt-ltb, le-ltb}
 use borrow.Author.Needs.{needs}
-use Rattle.reader.specs.Meaning.{Reads}
-use Rattle.reader.specs.Read.{judgeOf, answered, readOf, written, outputOf}
-use Rattle.reader.specs.declared.Judgement.{Judgement}
-use Rattle.reader.specs.declared.Judgement.the-variants.{Sound}
-use Rattle.reader.specs.declared.ReadAnswer.{ReadAnswer}
-use Rattle.reader.proofs.Meaning.{sound-fits, read-means}
+use Rattle.reading.specs.Meaning.{Reads}
+use Rattle.reading.specs.Read.{judgeOf, answered, readOf, written, outputOf}
+use Rattle.reading.specs.declared.Judgement.{Judgement}
+use Rattle.reading.specs.declared.Judgement.the-variants.{Sound}
+use Rattle.reading.specs.declared.ReadAnswer.{ReadAnswer}
+use Rattle.reading.proofs.Meaning.{sound-fits, read-means}
 use Rattle.reader.proofs.read.Statement.{statement}
 use Rattle.reader.proofs.read.Tie as tie
 

@@ -4,7 +4,7 @@ use mathlib.Core.Path.{sym, _∙_}
 use Prim.Native.Nat.{_-_}
 use lib.ListN.{length}
 use borrow.Author.Needs.{needs}
-use Rattle.reader.proofs.Scans.{Reached, reached-start, reached-dead, reached-next, reached-end}
+use Rattle.reading.proofs.Scans.{Reached, reached-start, reached-dead, reached-next, reached-end}
 use Rattle.reader.proofs.scan_text.Statement.{statement}
 use Rattle.reader.proofs.scan_text.Tie as tie
 

@@ -3,11 +3,11 @@ use mathlib.Core.Path.{_≡_, refl, sym, ap, subst, _∙_}
 use mathlib.Core.List.{List}
 use Prim.Native.Nat.{ℕ}
 use borrow.Author.Needs.{needs}
-use Rattle.reader.specs.Meaning.{HandsBack}
-use Rattle.reader.specs.Read.{judgeOf, labelIn}
-use Rattle.reader.specs.declared.Judgement.{Judgement}
-use Rattle.reader.specs.declared.Judgement.the-variants.{Sound, Refused}
-use Rattle.reader.proofs.Meaning.{label-means}
+use Rattle.reading.specs.Meaning.{HandsBack}
+use Rattle.reading.specs.Read.{judgeOf, labelIn}
+use Rattle.reading.specs.declared.Judgement.{Judgement}
+use Rattle.reading.specs.declared.Judgement.the-variants.{Sound, Refused}
+use Rattle.reading.proofs.Meaning.{label-means}
 use Rattle.zullifern.specs.Reports.{judgedReport, labelReport, reportedPart}
 use Rattle.zullifern.proofs.zullifern_label.Statement.{statement}
 use Rattle.zullifern.proofs.zullifern_label.Tie as tie

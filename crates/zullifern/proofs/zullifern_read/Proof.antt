@@ -1,7 +1,7 @@
 -- `zullifern::zullifern_read` meets its contract: the number and the report are those of what `read` answers. Assumes nothing.
 use mathlib.Core.Path.{ap, _∙_}
 use borrow.Author.Needs.{needs}
-use Rattle.reader.specs.Answers.{numberOf}
+use Rattle.reading.specs.Answers.{numberOf}
 use Rattle.zullifern.specs.Reports.{readReport}
 use Rattle.zullifern.proofs.zullifern_read.Statement.{statement}
 use Rattle.zullifern.proofs.zullifern_read.Tie as tie
@@ -15,8 +15,8 @@ read-report-requires c κs = search needs
 put-report-requires : tie.Need-put-report-requires
 put-report-requires c κs = search needs
 
-number-requires : tie.Need-number-requires
-number-requires c κs = search needs
+answer-number-requires : tie.Need-answer-number-requires
+answer-number-requires c κs = search needs
 
 same-length : tie.Need-same-length
 same-length c = search needs
@@ -25,7 +25,7 @@ returns : tie.Need-returns
 returns c =
     let reported = c .before .before .before in
     let answer = reported .before .before .before .read .ensures in (
-      c .number .ensures ∙ ap numberOf (answer .0),
+      c .answer-number .ensures ∙ ap numberOf (answer .0),
       c .before .put-report .ensures ∙ reported .read-report .ensures ∙ ap readReport (answer .0),
       answer .1,
       rw (answer .0) at (answer .2),
@@ -38,6 +38,6 @@ zullifern-read-spec =
     read-requires
     read-report-requires
     put-report-requires
-    number-requires
+    answer-number-requires
     same-length
     returns)

@@ -1,0 +1,17 @@
+-- `machine::line_char` meets its contract: the code's test is that of `lineChar`. Assumes nothing.
+use borrow.Author.Tests.{eq-eqb, ne-eqb}
+use borrow.Author.Needs.{needs}
+use Rattle.engine.proofs.line_char.Statement.{statement}
+use Rattle.engine.proofs.line_char.Tie as tie
+
+returns : tie.Need-returns
+returns c = simp (eq-eqb _ _ (c .if1 .taken))
+
+sub-t3 : tie.Need-sub-t3
+sub-t3 c = search needs
+
+returns-2 : tie.Need-returns-2
+returns-2 c = simp (ne-eqb _ _ (c .if1 .left))
+
+pub line-char-spec : {M : Type 1} → statement M
+line-char-spec = tie.close (tie.spec returns sub-t3 returns-2)

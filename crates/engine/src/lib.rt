@@ -1,0 +1,608 @@
+// The machine's code: each function equals its definition in the crate `machine`.
+ghost use mathlib.Core.Path.{_≡_};
+ghost use lib.ListN.{length, getD};
+ghost use Rattle.machine.specs.Kinds.{kindOf, otherKind};
+ghost use Rattle.machine.specs.Machine.{wordOf, wordStep, labelRow, labelTarget, lineEnd, lineChar, linePad, row, laxRow, standardRow, strictRow, target, behind, labelled, beforeStep, next, step, start, accepting, strictAccepting, isAfter, dead, bytePart, boundaryPart, laxPart, standardPart, strictPart, partOf};
+use base64::PAD;
+use base64::Value;
+use base64::value_of;
+use grammar::Grammar;
+use machine::Boundary;
+use machine::Kind;
+use machine::LabelPhase;
+use machine::LabelRow;
+use machine::LabelTarget;
+use machine::LaxPhase;
+use machine::Part;
+use machine::Phase;
+use machine::Row;
+use machine::StandardPhase;
+use machine::State;
+use machine::StrictPhase;
+
+// The marks.
+const HT: u8 = b'\t';
+
+const LF: u8 = b'\n';
+
+const VT: u8 = 11;
+
+const FF: u8 = 12;
+
+const CR: u8 = b'\r';
+
+const SP: u8 = b' ';
+
+const HYPHEN: u8 = b'-';
+
+// The first and the last character of labels, the hyphen between them aside.
+const FIRST_MARK: u8 = b'!';
+
+const LAST_MARK: u8 = b'~';
+
+const BEGIN: [u8; 11] = *b"-----BEGIN ";
+
+const END: [u8; 9] = *b"-----END ";
+
+// How many characters a strict line has room for behind its first.
+const LINE_ROOM: u8 = 63;
+
+// The kind of a byte that is no blank, line end, VT, FF, hyphen or pad.
+fn other_kind(b: u8) -> Kind
+    ensures { λ r. ⌜ r ≡ otherKind b ⌝ }
+{
+    let value = value_of(b);
+    match value {
+        Value::Of(_) => Kind::Alphabet,
+        Value::Outside => {
+            if b < FIRST_MARK {
+                return Kind::Other;
+            }
+            if LAST_MARK < b {
+                return Kind::Other;
+            }
+            Kind::Mark
+        }
+    }
+}
+
+// The kind of a byte.
+pub fn kind_of(b: u8) -> Kind
+    ensures { λ r. ⌜ r ≡ kindOf b ⌝ }
+{
+    match b {
+        HT => Kind::Tab,
+        LF => Kind::Lf,
+        VT => Kind::Feed,
+        FF => Kind::Feed,
+        CR => Kind::Cr,
+        SP => Kind::Space,
+        HYPHEN => Kind::Hyphen,
+        PAD => Kind::Pad,
+        _ => other_kind(b),
+    }
+}
+
+// How long "-----BEGIN " or "-----END " is.
+fn word_length(boundary: Boundary) -> u8
+    ensures { λ r. ⌜ r ≡ length (wordOf boundary) ⌝ }
+{
+    match boundary {
+        Boundary::Opening => 11,
+        Boundary::Closing => 9,
+    }
+}
+
+// A byte of "-----BEGIN " or "-----END "; 0 behind their end.
+fn word_byte(boundary: Boundary, at: u8) -> u8
+    ensures { λ r. ⌜ r ≡ getD (wordOf boundary) at 0 ⌝ }
+{
+    match boundary {
+        Boundary::Opening => {
+            if at < 11 {
+                return BEGIN[at as usize];
+            }
+            0
+        }
+        Boundary::Closing => {
+            if at < 9 {
+                return END[at as usize];
+            }
+            0
+        }
+    }
+}
+
+// A byte behind so many of "-----BEGIN " or "-----END ".
+fn word_step(boundary: Boundary, read: u8, b: u8) -> Phase
+    ensures { λ r. ⌜ r ≡ wordStep boundary read b ⌝ }
+{
+    let length = word_length(boundary);
+    if length <= read {
+        return Phase::Dead;
+    }
+    let expected = word_byte(boundary, read);
+    if b != expected {
+        return Phase::Dead;
+    }
+    if read + 1 < length {
+        Phase::Word(boundary, read + 1)
+    } else {
+        Phase::Label(boundary, LabelPhase::Start)
+    }
+}
+
+// The ways on in a label.
+fn label_row(phase: LabelPhase) -> LabelRow
+    ensures { λ r. ⌜ r ≡ labelRow phase ⌝ }
+{
+    let refused = LabelTarget::Refused;
+    match phase {
+        LabelPhase::Start => LabelRow {
+            hyphen: LabelTarget::To(LabelPhase::One),
+            space: refused,
+            char: LabelTarget::To(LabelPhase::Char),
+        },
+        LabelPhase::Char => LabelRow {
+            hyphen: LabelTarget::To(LabelPhase::Hyphen),
+            space: LabelTarget::To(LabelPhase::Space),
+            char: LabelTarget::To(LabelPhase::Char),
+        },
+        LabelPhase::Space => LabelRow {
+            hyphen: refused,
+            space: refused,
+            char: LabelTarget::To(LabelPhase::Char),
+        },
+        LabelPhase::Hyphen => LabelRow {
+            hyphen: LabelTarget::To(LabelPhase::Two),
+            space: refused,
+            char: LabelTarget::To(LabelPhase::Char),
+        },
+        LabelPhase::One => LabelRow {
+            hyphen: LabelTarget::To(LabelPhase::Two),
+            space: refused,
+            char: refused,
+        },
+        LabelPhase::Two => LabelRow {
+            hyphen: LabelTarget::To(LabelPhase::Three),
+            space: refused,
+            char: refused,
+        },
+        LabelPhase::Three => LabelRow {
+            hyphen: LabelTarget::To(LabelPhase::Four),
+            space: refused,
+            char: refused,
+        },
+        LabelPhase::Four => LabelRow {
+            hyphen: LabelTarget::Whole,
+            space: refused,
+            char: refused,
+        },
+    }
+}
+
+// The way on that a kind of byte takes.
+fn label_target(row: LabelRow, kind: Kind) -> LabelTarget
+    ensures { λ r. ⌜ r ≡ labelTarget row kind ⌝ }
+{
+    match kind {
+        Kind::Tab => LabelTarget::Refused,
+        Kind::Space => row.space,
+        Kind::Cr => LabelTarget::Refused,
+        Kind::Lf => LabelTarget::Refused,
+        Kind::Feed => LabelTarget::Refused,
+        Kind::Hyphen => row.hyphen,
+        Kind::Alphabet => row.char,
+        Kind::Pad => row.char,
+        Kind::Mark => row.char,
+        Kind::Other => LabelTarget::Refused,
+    }
+}
+
+// The phase right behind a boundary.
+fn behind_boundary(grammar: Grammar, boundary: Boundary) -> Phase
+    ensures { λ r. ⌜ r ≡ behind grammar boundary ⌝ }
+{
+    match boundary {
+        Boundary::Opening => match grammar {
+            Grammar::Lax => Phase::Lax(LaxPhase::Data),
+            Grammar::Standard => Phase::Standard(StandardPhase::Opened),
+            Grammar::Strict => Phase::Strict(StrictPhase::Opened),
+        },
+        Boundary::Closing => match grammar {
+            Grammar::Lax => Phase::Lax(LaxPhase::Closed),
+            Grammar::Standard => Phase::Standard(StandardPhase::Closed),
+            Grammar::Strict => Phase::Strict(StrictPhase::Closed),
+        },
+    }
+}
+
+// The phase that a label goes on to.
+fn label_phase(grammar: Grammar, boundary: Boundary, to: LabelTarget) -> Phase
+    ensures { λ r. ⌜ r ≡ labelled grammar boundary to ⌝ }
+{
+    match to {
+        LabelTarget::To(phase) => Phase::Label(boundary, phase),
+        LabelTarget::Whole => behind_boundary(grammar, boundary),
+        LabelTarget::Refused => Phase::Dead,
+    }
+}
+
+// A line end behind characters of a strict line that has room for so many more: that of a full line, or of the final line
+// where the last group is whole.
+fn line_end(room: u8) -> Phase
+    ensures { λ r. ⌜ r ≡ lineEnd room ⌝ }
+{
+    if room == 0 {
+        return Phase::Strict(StrictPhase::Line);
+    }
+    if room % 4 == 0 {
+        return Phase::Strict(StrictPhase::Final);
+    }
+    Phase::Dead
+}
+
+// A character more.
+fn line_char(room: u8) -> Phase
+    ensures { λ r. ⌜ r ≡ lineChar room ⌝ }
+{
+    if room == 0 {
+        return Phase::Dead;
+    }
+    Phase::Strict(StrictPhase::Data(room - 1))
+}
+
+// A pad behind three or two characters of a group.
+fn line_pad(room: u8) -> Phase
+    ensures { λ r. ⌜ r ≡ linePad room ⌝ }
+{
+    if room % 4 == 1 {
+        return Phase::Strict(StrictPhase::Padded);
+    }
+    if room % 4 == 2 {
+        return Phase::Strict(StrictPhase::OnePad);
+    }
+    Phase::Dead
+}
+
+// The ways on from a phase.
+fn ways(blank: Phase, feed: Phase, end: Phase, alphabet: Phase, pad: Phase, hyphen: Phase) -> Row
+    ensures { λ r. ⌜ r ≡ row blank feed end alphabet pad hyphen ⌝ }
+{
+    Row {
+        blank,
+        feed,
+        end,
+        alphabet,
+        pad,
+        hyphen,
+    }
+}
+
+// The ways on under lax: by a blank, VT or FF, a line end, an alphabet character, a pad, a hyphen.
+fn lax_row(phase: LaxPhase) -> Row
+    ensures { λ r. ⌜ r ≡ laxRow phase ⌝ }
+{
+    let dead = Phase::Dead;
+    let closing = Phase::Word(Boundary::Closing, 1);
+    let data = Phase::Lax(LaxPhase::Data);
+    let one_pad = Phase::Lax(LaxPhase::OnePad);
+    let two_pads = Phase::Lax(LaxPhase::TwoPads);
+    let closed = Phase::Lax(LaxPhase::Closed);
+    match phase {
+        LaxPhase::Data => ways(data, data, data, data, one_pad, closing),
+        LaxPhase::OnePad => ways(one_pad, one_pad, one_pad, dead, two_pads, closing),
+        LaxPhase::TwoPads => ways(two_pads, two_pads, two_pads, dead, dead, closing),
+        LaxPhase::Closed => ways(closed, closed, closed, dead, dead, dead),
+    }
+}
+
+// The ways on under standard: by a blank, VT or FF, a line end, an alphabet character, a pad, a hyphen.
+fn standard_row(phase: StandardPhase) -> Row
+    ensures { λ r. ⌜ r ≡ standardRow phase ⌝ }
+{
+    let dead = Phase::Dead;
+    let closing = Phase::Word(Boundary::Closing, 1);
+    let opened = Phase::Standard(StandardPhase::Opened);
+    let leading = Phase::Standard(StandardPhase::Leading);
+    let blank_line = Phase::Standard(StandardPhase::BlankLine);
+    let data = Phase::Standard(StandardPhase::Data);
+    let one_pad = Phase::Standard(StandardPhase::OnePad);
+    let trailing = Phase::Standard(StandardPhase::Trailing);
+    let line = Phase::Standard(StandardPhase::Line);
+    let ending = Phase::Standard(StandardPhase::Ending);
+    let final_line = Phase::Standard(StandardPhase::Final);
+    let closed = Phase::Standard(StandardPhase::Closed);
+    let ended = Phase::Standard(StandardPhase::Ended);
+    match phase {
+        StandardPhase::Opened => ways(opened, dead, leading, dead, dead, dead),
+        StandardPhase::Leading => ways(leading, dead, blank_line, data, one_pad, dead),
+        StandardPhase::BlankLine => ways(leading, dead, blank_line, data, one_pad, closing),
+        StandardPhase::Data => ways(trailing, dead, line, data, one_pad, dead),
+        StandardPhase::Trailing => ways(trailing, dead, line, dead, dead, dead),
+        StandardPhase::Line => ways(ending, dead, final_line, data, one_pad, closing),
+        StandardPhase::OnePad => ways(ending, dead, final_line, dead, ending, dead),
+        StandardPhase::Ending => ways(ending, dead, final_line, dead, dead, dead),
+        StandardPhase::Final => ways(dead, dead, dead, dead, dead, closing),
+        StandardPhase::Closed => ways(closed, dead, ended, dead, dead, dead),
+        StandardPhase::Ended => ways(dead, dead, dead, dead, dead, dead),
+    }
+}
+
+// The ways on under strict: by a blank, VT or FF, a line end, an alphabet character, a pad, a hyphen.
+fn strict_row(phase: StrictPhase) -> Row
+    ensures { λ r. ⌜ r ≡ strictRow phase ⌝ }
+{
+    let dead = Phase::Dead;
+    let closing = Phase::Word(Boundary::Closing, 1);
+    let first = Phase::Strict(StrictPhase::First);
+    let padded = Phase::Strict(StrictPhase::Padded);
+    let final_line = Phase::Strict(StrictPhase::Final);
+    let ended = Phase::Strict(StrictPhase::Ended);
+    let data = Phase::Strict(StrictPhase::Data(LINE_ROOM));
+    match phase {
+        StrictPhase::Opened => ways(dead, dead, first, dead, dead, dead),
+        StrictPhase::First => ways(dead, dead, dead, data, dead, dead),
+        StrictPhase::Line => ways(dead, dead, dead, data, dead, closing),
+        StrictPhase::Data(room) => ways(
+            dead,
+            dead,
+            line_end(room),
+            line_char(room),
+            line_pad(room),
+            dead,
+        ),
+        StrictPhase::OnePad => ways(dead, dead, dead, dead, padded, dead),
+        StrictPhase::Padded => ways(dead, dead, final_line, dead, dead, dead),
+        StrictPhase::Final => ways(dead, dead, dead, dead, dead, closing),
+        StrictPhase::Closed => ways(dead, dead, ended, dead, dead, dead),
+        StrictPhase::Ended => ways(dead, dead, dead, dead, dead, dead),
+    }
+}
+
+// The way on that a kind of byte takes.
+fn row_target(row: Row, kind: Kind) -> Phase
+    ensures { λ r. ⌜ r ≡ target row kind ⌝ }
+{
+    match kind {
+        Kind::Tab => row.blank,
+        Kind::Space => row.blank,
+        Kind::Cr => row.end,
+        Kind::Lf => row.end,
+        Kind::Feed => row.feed,
+        Kind::Hyphen => row.hyphen,
+        Kind::Alphabet => row.alphabet,
+        Kind::Pad => row.pad,
+        Kind::Mark => Phase::Dead,
+        Kind::Other => Phase::Dead,
+    }
+}
+
+// Before the opening, under lax.
+fn before_step(kind: Kind) -> Phase
+    ensures { λ r. ⌜ r ≡ beforeStep kind ⌝ }
+{
+    match kind {
+        Kind::Tab => Phase::Before,
+        Kind::Space => Phase::Before,
+        Kind::Cr => Phase::Before,
+        Kind::Lf => Phase::Before,
+        Kind::Feed => Phase::Before,
+        Kind::Hyphen => Phase::Word(Boundary::Opening, 1),
+        Kind::Alphabet => Phase::Dead,
+        Kind::Pad => Phase::Dead,
+        Kind::Mark => Phase::Dead,
+        Kind::Other => Phase::Dead,
+    }
+}
+
+// The phase behind the next byte.
+fn next_phase(grammar: Grammar, phase: Phase, b: u8) -> Phase
+    ensures { λ r. ⌜ r ≡ next grammar phase b ⌝ }
+{
+    match phase {
+        Phase::Before => before_step(kind_of(b)),
+        Phase::Word(boundary, read) => word_step(boundary, read, b),
+        Phase::Label(boundary, label) => label_phase(
+            grammar,
+            boundary,
+            label_target(label_row(label), kind_of(b)),
+        ),
+        Phase::Lax(lax) => row_target(lax_row(lax), kind_of(b)),
+        Phase::Standard(standard) => row_target(standard_row(standard), kind_of(b)),
+        Phase::Strict(strict) => row_target(strict_row(strict), kind_of(b)),
+        Phase::Dead => Phase::Dead,
+    }
+}
+
+// Where a message starts, the first of a bundle or a single one.
+pub fn start(grammar: Grammar) -> State
+    ensures { λ r. ⌜ r ≡ start grammar ⌝ }
+{
+    match grammar {
+        Grammar::Lax => State {
+            phase: Phase::Before,
+            cr: false,
+        },
+        Grammar::Standard => State {
+            phase: Phase::Word(Boundary::Opening, 0),
+            cr: false,
+        },
+        Grammar::Strict => State {
+            phase: Phase::Word(Boundary::Opening, 0),
+            cr: false,
+        },
+    }
+}
+
+// The machine behind the next byte. LF behind CR is of the same line end and moves nothing.
+pub fn step(state: State, grammar: Grammar, b: u8) -> State
+    ensures { λ r. ⌜ r ≡ step grammar state b ⌝ }
+{
+    let phase = state.phase;
+    if state.cr {
+        if b == LF {
+            return State { phase, cr: false };
+        }
+    }
+    State {
+        phase: next_phase(grammar, phase, b),
+        cr: b == CR,
+    }
+}
+
+// The part that a boundary is.
+fn boundary_part(boundary: Boundary) -> Part
+    ensures { λ r. ⌜ r ≡ boundaryPart boundary ⌝ }
+{
+    match boundary {
+        Boundary::Opening => Part::Opening,
+        Boundary::Closing => Part::Closing,
+    }
+}
+
+fn lax_part(phase: LaxPhase) -> Part
+    ensures { λ r. ⌜ r ≡ laxPart phase ⌝ }
+{
+    match phase {
+        LaxPhase::Data => Part::Body,
+        LaxPhase::OnePad => Part::Body,
+        LaxPhase::TwoPads => Part::Body,
+        LaxPhase::Closed => Part::After,
+    }
+}
+
+fn standard_part(phase: StandardPhase) -> Part
+    ensures { λ r. ⌜ r ≡ standardPart phase ⌝ }
+{
+    match phase {
+        StandardPhase::Opened => Part::Body,
+        StandardPhase::Leading => Part::Body,
+        StandardPhase::BlankLine => Part::Body,
+        StandardPhase::Data => Part::Body,
+        StandardPhase::Trailing => Part::Body,
+        StandardPhase::Line => Part::Body,
+        StandardPhase::OnePad => Part::Body,
+        StandardPhase::Ending => Part::Body,
+        StandardPhase::Final => Part::Body,
+        StandardPhase::Closed => Part::After,
+        StandardPhase::Ended => Part::After,
+    }
+}
+
+fn strict_part(phase: StrictPhase) -> Part
+    ensures { λ r. ⌜ r ≡ strictPart phase ⌝ }
+{
+    match phase {
+        StrictPhase::Opened => Part::Body,
+        StrictPhase::First => Part::Body,
+        StrictPhase::Line => Part::Body,
+        StrictPhase::Data(_) => Part::Body,
+        StrictPhase::OnePad => Part::Body,
+        StrictPhase::Padded => Part::Body,
+        StrictPhase::Final => Part::Body,
+        StrictPhase::Closed => Part::After,
+        StrictPhase::Ended => Part::After,
+    }
+}
+
+// The part of a message that a phase is in; a dead phase is in none, and counts as behind the message.
+pub fn part_of(phase: Phase) -> Part
+    ensures { λ r. ⌜ r ≡ partOf phase ⌝ }
+{
+    match phase {
+        Phase::Before => Part::Before,
+        Phase::Word(boundary, _) => boundary_part(boundary),
+        Phase::Label(boundary, _) => boundary_part(boundary),
+        Phase::Lax(lax) => lax_part(lax),
+        Phase::Standard(standard) => standard_part(standard),
+        Phase::Strict(strict) => strict_part(strict),
+        Phase::Dead => Part::After,
+    }
+}
+
+// Whether no text of the grammar starts with what has been read.
+pub fn is_dead(phase: Phase) -> bool
+    ensures { λ r. ⌜ r ≡ dead phase ⌝ }
+{
+    match phase {
+        Phase::Before => false,
+        Phase::Word(_, _) => false,
+        Phase::Label(_, _) => false,
+        Phase::Lax(_) => false,
+        Phase::Standard(_) => false,
+        Phase::Strict(_) => false,
+        Phase::Dead => true,
+    }
+}
+
+// Whether a strict message, which has to end in a line end, is whole.
+fn strict_accepting(phase: StrictPhase) -> bool
+    ensures { λ r. ⌜ r ≡ strictAccepting phase ⌝ }
+{
+    match phase {
+        StrictPhase::Opened => false,
+        StrictPhase::First => false,
+        StrictPhase::Line => false,
+        StrictPhase::Data(_) => false,
+        StrictPhase::OnePad => false,
+        StrictPhase::Padded => false,
+        StrictPhase::Final => false,
+        StrictPhase::Closed => false,
+        StrictPhase::Ended => true,
+    }
+}
+
+// Whether a part is behind the closing.
+fn is_after(part: Part) -> bool
+    ensures { λ r. ⌜ r ≡ isAfter part ⌝ }
+{
+    match part {
+        Part::Before => false,
+        Part::Opening => false,
+        Part::Body => false,
+        Part::Closing => false,
+        Part::After => true,
+    }
+}
+
+// Whether what has been read is a text of the grammar.
+pub fn is_accepting(phase: Phase) -> bool
+    ensures { λ r. ⌜ r ≡ accepting phase ⌝ }
+{
+    match phase {
+        Phase::Before => false,
+        Phase::Word(_, _) => false,
+        Phase::Label(_, _) => false,
+        Phase::Lax(lax) => is_after(lax_part(lax)),
+        Phase::Standard(standard) => is_after(standard_part(standard)),
+        Phase::Strict(strict) => strict_accepting(strict),
+        Phase::Dead => false,
+    }
+}
+
+// The part that a byte belongs to, which took the machine from one part to another: the first hyphen of a boundary is the
+// boundary's, and so is its last.
+pub fn byte_part(from: Part, to: Part) -> Part
+    ensures { λ r. ⌜ r ≡ bytePart from to ⌝ }
+{
+    match from {
+        Part::Before => match to {
+            Part::Before => Part::Before,
+            Part::Opening => Part::Opening,
+            Part::Body => Part::Opening,
+            Part::Closing => Part::Opening,
+            Part::After => Part::Opening,
+        },
+        Part::Opening => Part::Opening,
+        Part::Body => match to {
+            Part::Before => Part::Closing,
+            Part::Opening => Part::Closing,
+            Part::Body => Part::Body,
+            Part::Closing => Part::Closing,
+            Part::After => Part::Closing,
+        },
+        Part::Closing => Part::Closing,
+        Part::After => Part::After,
+    }
+}

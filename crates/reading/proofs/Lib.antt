@@ -1,0 +1,9 @@
+-- Facts about the files of specs/, under the same names. Assumes nothing.
+pub mod Data
+pub mod Tallies
+pub mod Places
+pub mod Checks
+pub mod Whole
+pub mod Meaning
+pub mod Scans
+pub mod Samples

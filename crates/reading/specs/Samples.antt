@@ -1,0 +1,97 @@
+-- The counter samples of the requirements: the rows marked *, as one list under one claim. Assumes nothing.
+use mathlib.Core.List.{List, [], _∷_, _++_}
+use Prim.Native.Nat.{ℕ, _-_}
+use lib.ListN.{length, replicate}
+use Rattle.base64.specs.Lists.{All}
+use Rattle.grammar.specs.Grammars.{laxNumber, standardNumber, strictNumber}
+use Rattle.grammar.specs.Samples.{beginA, endB, around, M, unendedM}
+use Rattle.reading.specs.Answers.{offset, byteCount, span}
+use Rattle.reading.specs.Meaning.{Reads}
+use Rattle.reading.specs.declared.ReadAnswer.{ReadAnswer}
+use Rattle.reading.specs.declared.ReadAnswer.the-variants.{Accepted, Refused}
+use Rattle.reading.specs.declared.Refusal.{Refusal}
+use Rattle.reading.specs.declared.Refusal.the-variants.{BadOpening, BadBody, BadClosing, LabelsDiffer, BadCounts, SpareBits}
+
+-- What a row says of a text under a grammar: this data, the label one byte at 11; or a refusal.
+pub data Outcome : Type 0 where
+  accepted : List ℕ → Outcome
+  refused : Refusal → Outcome
+
+-- The bytes of the lent output.
+abbrev pub room : ℕ
+room = 4
+
+abbrev pub answerFor : Outcome → ReadAnswer
+answerFor (accepted content) = Accepted record { size = byteCount (length content); label = span 11 1 }
+answerFor (refused refusal) = Refused refusal
+
+abbrev pub outputFor : Outcome → List ℕ
+outputFor (accepted content) = content ++ replicate (room - length content) 0
+outputFor (refused refusal) = replicate room 0
+
+-- A row: a text and its outcome under each grammar.
+pub record Row : Type 0 where
+  pub text : List ℕ
+  pub lax : Outcome
+  pub standard : Outcome
+  pub strict : Outcome
+
+abbrev pub Holds : ℕ → List ℕ → Outcome → Type 0
+Holds number text o = Reads text number room (answerFor o) (outputFor o)
+
+abbrev pub RowHolds : Row → Type 0
+RowHolds r = Holds laxNumber (r .text) (r .lax) × Holds standardNumber (r .text) (r .standard) × Holds strictNumber (r .text) (r .strict)
+
+abbrev pub row : List ℕ → Outcome → Outcome → Outcome → Row
+row text lax standard strict = record { text = text; lax = lax; standard = standard; strict = strict }
+
+-- The numbers of the table, each with its place.
+abbrev pub no3 : ℕ → Outcome
+no3 n = refused (BadOpening (offset n))
+
+abbrev pub no4 : ℕ → Outcome
+no4 n = refused (BadBody (offset n))
+
+abbrev pub no5 : ℕ → Outcome
+no5 n = refused (BadClosing (offset n))
+
+abbrev pub no7 : ℕ → Outcome
+no7 n = refused (LabelsDiffer (offset n))
+
+abbrev pub no8 : ℕ → Outcome
+no8 n = refused (BadCounts (offset n))
+
+abbrev pub no9 : ℕ → Outcome
+no9 n = refused (SpareBits (offset n))
+
+abbrev pub rows : List Row
+rows =
+    -- M
+    row M (accepted (102 ∷ [])) (accepted (102 ∷ [])) (accepted (102 ∷ []))
+    -- M with `Zh==`
+    ∷ row (around (10 ∷ 90 ∷ 104 ∷ 61 ∷ 61 ∷ 10 ∷ [])) (accepted (102 ∷ [])) (accepted (102 ∷ [])) (no9 19)
+    -- M without last LF
+    ∷ row unendedM (accepted (102 ∷ [])) (accepted (102 ∷ [])) (no5 38)
+    -- M without `Zg==` and its LF
+    ∷ row (around (10 ∷ [])) (accepted []) (no4 18) (no4 18)
+    -- M with LF for `Zg==` and its LF
+    ∷ row (around (10 ∷ 10 ∷ [])) (accepted []) (accepted []) (no4 18)
+    -- fourth row, first LF now CRLF
+    ∷ row (around (13 ∷ 10 ∷ [])) (accepted []) (no4 19) (no4 19)
+    -- M with `Zg=`
+    ∷ row (around (10 ∷ 90 ∷ 103 ∷ 61 ∷ 10 ∷ [])) (no8 22) (no8 22) (no4 21)
+    -- M with `Zm 9v`
+    ∷ row (around (10 ∷ 90 ∷ 109 ∷ 32 ∷ 57 ∷ 118 ∷ 10 ∷ [])) (accepted (102 ∷ 111 ∷ 111 ∷ [])) (no4 21) (no4 20)
+    -- M with `Zg=`, LF, `=`
+    ∷ row (around (10 ∷ 90 ∷ 103 ∷ 61 ∷ 10 ∷ 61 ∷ 10 ∷ [])) (accepted (102 ∷ [])) (no4 22) (no4 21)
+    -- M closing with B
+    ∷ row (beginA ++ (10 ∷ 90 ∷ 103 ∷ 61 ∷ 61 ∷ 10 ∷ (endB ++ (10 ∷ [])))) (no7 32) (no7 32) (no7 32)
+    -- M, sixth hyphen on opening
+    ∷ row (around (45 ∷ 10 ∷ 90 ∷ 103 ∷ 61 ∷ 61 ∷ 10 ∷ [])) (no5 18) (no4 17) (no4 17)
+    -- empty text
+    ∷ row [] (no3 0) (no3 0) (no3 0)
+    ∷ []
+
+-- The claim.
+abbrev pub Samples : Type 0
+Samples = All RowHolds rows

@@ -1,0 +1,64 @@
+-- The scan: the machine run over a text to its first death or the end, and what is counted beside it. Assumes nothing.
+-- None of this has to be believed: `Meaning` says what a call answers in terms of the grammars' relations.
+use mathlib.Core.Bool.{cond}
+use mathlib.Core.List.{List, [], _∷_}
+use Prim.Native.Nat.{ℕ, suc, _+_}
+use Rattle.grammar.specs.declared.Grammar.{Grammar}
+use Rattle.machine.specs.Kinds.{kindOf}
+use Rattle.machine.specs.Machine.{step, partOf, bytePart, dead}
+use Rattle.machine.specs.declared.Kind.{Kind}
+use Rattle.machine.specs.declared.Kind.the-variants as kind
+use Rattle.machine.specs.declared.Part.{Part}
+use Rattle.machine.specs.declared.Part.the-variants as part
+use Rattle.machine.specs.declared.State.{State}
+use Rattle.reading.specs.declared.Tally.{Tally}
+use Rattle.reading.specs.declared.Scan.{Scan}
+
+abbrev pub tally : (before opening body closing characters pads last : ℕ) → Tally
+tally before opening body closing characters pads last =
+    record { before = before; opening = opening; body = body; closing = closing; characters = characters; pads = pads; last = last }
+
+abbrev pub noTally : Tally
+noTally = tally 0 0 0 0 0 0 0
+
+-- A byte of the body: an alphabet character, a pad, or another.
+abbrev pub characterTallied : Tally → Tally
+characterTallied t = tally (t .before) (t .opening) (t .body + 1) (t .closing) (t .characters + 1) (t .pads) (t .body)
+
+abbrev pub padTallied : Tally → Tally
+padTallied t = tally (t .before) (t .opening) (t .body + 1) (t .closing) (t .characters) (t .pads + 1) (t .last)
+
+abbrev pub otherTallied : Tally → Tally
+otherTallied t = tally (t .before) (t .opening) (t .body + 1) (t .closing) (t .characters) (t .pads) (t .last)
+
+abbrev pub bodyTallied : Kind → Tally → Tally
+bodyTallied kind.Tab t = otherTallied t
+bodyTallied kind.Space t = otherTallied t
+bodyTallied kind.Cr t = otherTallied t
+bodyTallied kind.Lf t = otherTallied t
+bodyTallied kind.Feed t = otherTallied t
+bodyTallied kind.Hyphen t = otherTallied t
+bodyTallied kind.Alphabet t = characterTallied t
+bodyTallied kind.Pad t = padTallied t
+bodyTallied kind.Mark t = otherTallied t
+bodyTallied kind.Other t = otherTallied t
+
+-- A byte of a part. What stands behind the closing is not counted.
+abbrev pub tallied : Part → Kind → Tally → Tally
+tallied part.Before k t = tally (t .before + 1) (t .opening) (t .body) (t .closing) (t .characters) (t .pads) (t .last)
+tallied part.Opening k t = tally (t .before) (t .opening + 1) (t .body) (t .closing) (t .characters) (t .pads) (t .last)
+tallied part.Body k t = bodyTallied k t
+tallied part.Closing k t = tally (t .before) (t .opening) (t .body) (t .closing + 1) (t .characters) (t .pads) (t .last)
+tallied part.After k t = t
+
+abbrev pub stopped : State → ℕ → Tally → Scan
+stopped s n t = record { phase = s .phase; length = n; tally = t }
+
+-- From a state of the machine on, with n bytes and a tally behind it.
+abbrev pub scanOf : Grammar → State → ℕ → Tally → List ℕ → Scan
+scanOf g s n t [] = stopped s n t
+scanOf g s n t (c ∷ l) =
+    cond
+    (dead ((step g s c) .phase))
+    (stopped s n t)
+    (scanOf g (step g s c) (suc n) (tallied (bytePart (partOf (s .phase)) (partOf ((step g s c) .phase))) (kindOf c) t) l)
