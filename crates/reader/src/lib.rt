@@ -74,7 +74,7 @@ pub fn equal(a: &[u8], b: &[u8]) -> bool
 }
 
 // The spare bits of `count` characters, of which `last` is the last one. A byte outside the alphabet has none.
-pub fn spare_bits(count: usize, last: u8) -> u8
+fn spare_bits(count: usize, last: u8) -> u8
     ensures { λ r. ⌜ r ≡ spareOf count (valueOf last) ⌝ }
 {
     let Value::Of(value) = base64::value_of(last) else {
@@ -112,7 +112,7 @@ fn feed_byte(group: Open, c: u8) -> Fed
 }
 
 // Writes the data of a body to the start of `out`, and zeros behind it: of what stood there nothing is left.
-pub fn put_data(body: &[u8], out: &mut [u8])
+fn put_data(body: &[u8], out: &mut [u8])
     requires { ⌜ length (decode (characters (now body))) ≤ length (now out) ⌝ }
     ensures { λ _. ⌜ now (out .exit) ≡ decode (characters (now (body .entry))) ++ replicate (length (now (out .entry)) - length (decode (characters (now (body .entry))))) 0 ⌝ }
 {

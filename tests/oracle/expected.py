@@ -1,0 +1,57 @@
+"""Writes what the program read_samples has to print, from its samples and the oracle alone.
+
+    python3 expected.py crates/read_samples/stdin > crates/read_samples/stdout
+"""
+import sys
+import zlib
+
+import oracle
+
+MARKS = {"$": 10, "%": 13, "&": 9, "(": 11, ")": 12, "?": 127, "^": 255}
+NAMES = {1: "lax", 2: "standard", 3: "strict"}
+
+
+def text_of(form, count):
+    """The text of a printable form."""
+    form = form.replace("\n", "")
+    if "{" in form:
+        before, rest = form.split("{")
+        unit, behind = rest.split("}")
+        form = before + unit * count + behind
+    return bytes(MARKS.get(c, ord(c)) for c in form)
+
+
+def numbers(values):
+    return " ".join(str(v) for v in values)
+
+
+def line(name, t, g, room):
+    a = oracle.read(t, g, room)
+    assert len(a.out) == room and not any(a.out[a.size if a.number == 0 else 0:])
+    data = a.out[:a.size] if a.number == 0 else b""
+    shown = "data=" + data.hex() if len(data) <= 48 else "adler32=%08x" % zlib.adler32(data)
+    label = oracle.label_part(t, g)
+    assert (label is not None) == (a.number in (0, 10))
+    if label is not None:
+        assert label == (a.label_at, a.label_len)
+    at, length = label or (0, 0)
+    return "%s: %s %d read %d %s %s clean label %s" % (
+        name, NAMES.get(g, g), room, a.number, numbers(a.row() + (0, 0, 0)), shown,
+        numbers((0, 0, 0, 0, at, length, 0, 0, 0)))
+
+
+def outcome(t, g, room):
+    a = oracle.read(t, g, room)
+    return "%d at %d clean" % (a.number, a.place)
+
+
+for sample in open(sys.argv[1]).read().split("@")[1:]:
+    if sample.startswith("#"):
+        continue
+    mode, name, room, count, form = sample.split(":", 4)
+    t, room = text_of(form, int(count)), int(room)
+    if mode == "brief":
+        print(name + ": " + " ".join(outcome(t, g, room) for g in (1, 2, 3)))
+    else:
+        for g in (1, 2, 3) if mode == "each" else (int(mode),):
+            print(line(name, t, g, room))

@@ -1,0 +1,304 @@
+"""Writes the samples, standard input of the program read_samples.
+
+    python3 samples.py DOCUMENT_001 > crates/read_samples/stdin
+"""
+import random
+import re
+import sys
+
+MARKS = {10: "$", 13: "%", 9: "&", 11: "(", 12: ")", 127: "?", 255: "^"}
+RESERVED = "@$%&()?^{}"
+out = []
+seen = set()
+
+
+def form(t):
+    """The printable form of a text."""
+    s = ""
+    for c in t:
+        if c in MARKS:
+            s += MARKS[c]
+        else:
+            assert 32 <= c < 127 and chr(c) not in RESERVED, t
+            s += chr(c)
+    return s
+
+
+def comment(s):
+    assert "@" not in s and "}" not in s
+    out.append("@# " + s + "\n")
+
+
+def put(mode, name, text, room=128, count=1):
+    assert (mode, name, room) not in seen and not set(name) & set(": @\n"), name
+    seen.add((mode, name, room))
+    out.append("@%s:%s:%d:%d:%s\n" % (mode, name, room, count, text))
+
+
+def each(name, t, **more):
+    put("each", name, form(t), **more)
+
+
+def brief(name, t):
+    put("brief", name, form(t), room=8)
+
+
+def message(opened, body, closed=None):
+    closed = opened if closed is None else closed
+    return b"-----BEGIN " + opened + b"-----\n" + body + b"-----END " + closed + b"-----\n"
+
+
+def body(b):
+    return message(b"A", b)
+
+
+M = body(b"Zg==\n")
+FULL = b"ABCDEFGHIJKLMNOPQRSTUVWXYZabcdefghijklmnopqrstuvwxyz0123456789+/"
+
+comment("Samples of the requirements, row by row. M is the first.")
+each("M", M)
+each("Zh==", body(b"Zh==\n"))
+each("no-last-LF", M[:-1])
+each("no-body", body(b""))
+each("empty-line", body(b"\n"))
+each("no-body-CRLF", b"-----BEGIN A-----\r\n-----END A-----\n")
+each("Zg=", body(b"Zg=\n"))
+each("Zm-SP-9v", body(b"Zm 9v\n"))
+each("Zg=-LF-=", body(b"Zg=\n=\n"))
+each("Zg-LF-==", body(b"Zg\n==\n"))
+each("closing-B", message(b"A", b"Zg==\n", b"B"))
+each("sixth-hyphen", M[:17] + b"-" + M[17:])
+each("SP-before", b" " + M)
+each("begin", M.replace(b"BEGIN", b"begin"))
+each("empty-text", b"")
+
+comment("Grammars that are not known.")
+for g in (0, 4, 257, 4294967295):
+    put(str(g), "M", form(M), room=8)
+put("0", "empty-text", "", room=0)
+put("0", "over-the-limit", form(M) + "{ }", room=8, count=65537 - 39)
+
+comment("The length of a line.")
+each("line-65", body(FULL + b"A\n"))
+each("line-64", body(FULL + b"\n"))
+each("line-64-64", body(FULL + b"\n" + FULL + b"\n"))
+each("line-64-4", body(FULL + b"\nZg==\n"))
+each("line-64-65", body(FULL + b"\n" + FULL + b"A\n"))
+each("line-68", body(FULL + b"Zm9v\n"))
+each("line-68-pads", body(FULL + b"Zg==\n"))
+each("line-60-64", body(FULL[:60] + b"\n" + FULL + b"\n"))
+each("line-63-1", body(FULL[:63] + b"\n/\n"))
+each("line-62-pads", body(FULL[:61] + b"w==\n"))
+each("line-63-pad", body(FULL[:62] + b"8=\n"))
+each("line-62-pads-more", body(FULL[:61] + b"w==\nZg==\n"))
+each("line-64-empty", body(FULL + b"\n\n"))
+each("line-64-pads", body(FULL + b"==\n"))
+each("one-character", body(b"Z\n"))
+each("two-characters", body(b"Zg\n"))
+each("three-characters", body(b"Zm8\n"))
+each("five-characters", body(b"Zm9vZ\n"))
+each("three-and-pad", body(b"Zm8=\n"))
+each("three-and-pad-spare", body(b"Zm9=\n"))
+each("two-pads-after-three", body(b"Zm8==\n"))
+each("one-pad-after-four", body(b"Zm9v=\n"))
+each("pads-alone", body(b"==\n"))
+each("three-pads", body(b"Zg===\n"))
+each("data-behind-pads", body(b"Zg==Zg==\n"))
+each("line-behind-pads", body(b"Zg==\nZg==\n"))
+each("not-alphabet", body(b"Zg-_\n"))
+each("dot", body(b"Zm9v.\n"))
+
+comment("Labels.")
+each("label-64", message(b"L" * 64, b"Zg==\n"))
+each("label-65", message(b"L" * 65, b"Zg==\n"))
+each("label-empty", message(b"", b"Zg==\n"))
+each("label-A-B", message(b"A-B", b"Zg==\n"))
+each("label-A-SP-B", message(b"A B", b"Zg==\n"))
+each("label-A--B", message(b"A--B", b"Zg==\n"))
+each("label-A-SP-SP-B", message(b"A  B", b"Zg==\n"))
+each("label-A-SP-hyphen-B", message(b"A -B", b"Zg==\n"))
+each("label-A-SP", message(b"A ", b"Zg==\n"))
+each("label-SP-A", message(b" A", b"Zg==\n"))
+each("label-hyphen-A", message(b"-A", b"Zg==\n"))
+each("label-HT", message(b"A\tB", b"Zg==\n"))
+each("label-DEL", message(b"A\x7f", b"Zg==\n"))
+each("label-0xFF", message(b"A\xff", b"Zg==\n"))
+each("label-edges", message(b"!,.~", b"Zg==\n"))
+each("label-words", message(b"a-b c.d-e f", b"Zg==\n"))
+each("label-lower", message(b"a", b"Zg==\n"))
+each("label-case", message(b"a", b"Zg==\n", b"A"))
+each("closing-65", message(b"A", b"Zg==\n", b"L" * 65))
+each("opening-65", message(b"L" * 65, b"Zg==\n", b"A"))
+each("closing-empty", message(b"A", b"Zg==\n", b""))
+each("opening-empty", message(b"", b"Zg==\n", b"A"))
+each("closing-longer", message(b"A", b"Zg==\n", b"AB"))
+each("closing-shorter", message(b"AB", b"Zg==\n", b"A"))
+each("closing-A--B", message(b"A", b"Zg==\n", b"A--B"))
+each("closing-A-SP", message(b"A", b"Zg==\n", b"A "))
+each("end", M.replace(b"END", b"end"))
+each("END-for-BEGIN", M.replace(b"BEGIN", b"END"))
+each("BEGIN-for-END", M.replace(b"END", b"BEGIN"))
+each("four-hyphens", M[1:])
+each("four-hyphens-closing", M.replace(b"\n-----E", b"\n----E"))
+each("six-hyphens", b"-" + M)
+each("sixth-hyphen-on-closing", M[:-1] + b"-\n")
+each("begin-and-no-space", M.replace(b"BEGIN ", b"BEGIN"))
+
+comment("The order of the checks: label, labels, counts, spare bits, room.")
+each("long-label-and-counts", message(b"L" * 65, b"Zg=\n", b"A"), room=0)
+each("labels-and-counts", message(b"A", b"Zg=\n", b"B"), room=0)
+each("labels-and-spare-bits", message(b"A", b"Zh==\n", b"B"), room=0)
+each("counts-and-room", body(b"Zg=\n"), room=0)
+each("spare-bits-and-room", body(b"Zh==\n"), room=0)
+each("M", M, room=0)
+each("M", M, room=1)
+each("no-body", body(b""), room=0)
+
+comment("Line ends, blanks and white.")
+each("CRLF", M.replace(b"\n", b"\r\n"))
+each("CR", M.replace(b"\n", b"\r"))
+each("CR-LF-CRLF", b"-----BEGIN A-----\rZg==\n-----END A-----\r\n")
+each("LF-CR", b"-----BEGIN A-----\n\rZg==\n-----END A-----\n")
+each("LF-CR-behind-data", body(b"Zg==\n\r"))
+each("CRLF-CRLF-no-data", b"-----BEGIN A-----\r\n\r\n-----END A-----\r\n")
+each("CR-CR-no-data", b"-----BEGIN A-----\r\r-----END A-----\r")
+each("CRLF-CR-no-data", b"-----BEGIN A-----\r\n\r-----END A-----\n")
+each("CR-CRLF-no-data", b"-----BEGIN A-----\r\r\n-----END A-----\n")
+each("CRLF-LF-no-data", b"-----BEGIN A-----\r\n\n-----END A-----\n")
+each("CR-SP-LF-no-data", b"-----BEGIN A-----\r \n-----END A-----\n")
+each("CR-no-data", b"-----BEGIN A-----\r-----END A-----\n")
+each("CRLF-between-lines", body(FULL + b"\r\nZg==\r\n"))
+each("CR-between-lines", body(FULL + b"\rZg==\r"))
+each("CRLF-CRLF-between-lines", body(FULL + b"\r\n\r\nZg==\n"))
+each("two-LF-behind", M + b"\n")
+each("CRLF-behind", M[:-1] + b"\r\n")
+each("CR-behind", M[:-1] + b"\r")
+each("LF-CR-behind", M + b"\r")
+each("CRLF-LF-behind", M[:-1] + b"\r\n\n")
+each("CR-CR-behind", M[:-1] + b"\r\r")
+each("blanks-behind", M[:-1] + b" \t\n")
+each("blanks-behind-no-LF", M[:-1] + b" \t")
+each("blank-behind-LF", M + b" ")
+each("blanks-behind-opening", b"-----BEGIN A----- \t\nZg==\n-----END A-----\n")
+each("no-line-end-behind-opening", b"-----BEGIN A-----Zg==\n-----END A-----\n")
+each("no-line-end-behind-data", b"-----BEGIN A-----\nZg==-----END A-----\n")
+each("all-in-one-line", b"-----BEGIN A-----Zg==-----END A-----")
+each("blanks-behind-data", body(b"Zg== \t\n"))
+each("blanks-before-data", body(b" \tZg==\n"))
+each("blanks-before-later-line", body(b"Zm9v\n Zg==\n"))
+each("blanks-between-pads", body(b"Zg= =\n"))
+each("blanks-before-pads", body(b"Zg ==\n"))
+each("blanks-before-closing", body(b"Zg==\n "))
+each("empty-lines-before-data", body(b"\n \n\r\n\tZg==\n"))
+each("empty-line-in-data", body(b"Zm9v\n\nZm9v\n"))
+each("empty-line-behind-data", body(b"Zm9v\n\n"))
+each("blank-line-behind-data", body(b"Zm9v\n \t\n"))
+each("two-empty-lines-behind-data", body(b"Zm9v\n\n\n"))
+each("empty-line-behind-pads", body(b"Zg==\n\n"))
+each("three-empty-lines", body(b"\n\n\n"))
+each("VT-behind-data", body(b"Zg==\v\n"))
+each("FF-behind-data", body(b"Zg==\f\n"))
+each("VT-FF-in-data", body(b"Z\vm\f9v\n"))
+each("VT-between-pads", body(b"Zg=\v=\n"))
+each("VT-before", b"\v" + M)
+each("FF-behind", M + b"\f")
+each("white-all-over", b" \t\r\n\v\f" + b"-----BEGIN A----- \t\r\n\v\fZ g\t=\r=\n\v-----END A-----\f\v\n\r\t ")
+each("white-alone", b" \n")
+each("LF-before", b"\n" + M)
+each("text-before", b"x" + M)
+each("text-behind", M + b"x")
+each("M-twice", M + M)
+each("M-no-last-LF-then-M", M[:-1] + M)
+each("DEL-in-data", body(b"Zm\x7f9v\n"))
+
+comment("Texts of 65,536 and of 65,537 bytes.")
+for limit in (65536, 65537):
+    put("each", "white-before-%d" % limit, "{ }" + form(M), count=limit - 39)
+    put("each", "white-behind-%d" % limit, form(M) + "{ }", count=limit - 39)
+    put("each", "blanks-behind-%d" % limit, form(M[:-1]) + "{&}$", count=limit - 39)
+    put("each", "blanks-behind-opening-%d" % limit, form(M[:17]) + "{ }" + form(M[17:]), count=limit - 39)
+LONG = "-----BEGIN AB-----${" + FULL.decode() + "$}" + FULL[:44].decode() + "$-----END AB-----"
+put("each", "lines-65536", LONG + "$", room=49152, count=1007)
+put("each", "lines-65536", LONG + "$", room=48368, count=1007)
+put("each", "lines-65537", LONG + "%$", room=49152, count=1007)
+put("each", "lines-65535", LONG, room=49152, count=1007)
+
+comment("Data of 1 to 49 and of 32,768 and 32,769 bytes.")
+LAST = {0: "", 1: "/w==", 2: "//8=", 47: FULL[:60].decode() + "//8="}
+for n in (1, 2, 3, 47, 48, 49, 32768, 32769):
+    lines, rest = divmod(n, 48)
+    if rest in LAST:
+        last = LAST[rest]
+    else:
+        group = {0: "", 1: "/w==", 2: "//8="}[rest % 3]
+        last = FULL[:rest // 3 * 4].decode() + group
+    t = "-----BEGIN A-----$" + ("{" + FULL.decode() + "$}" if lines else "") + (last + "$" if last else "")
+    t += "-----END A-----$"
+    for room in (n + 1, n, n - 1, 0) if n > 1 else (2, 1, 0):
+        put("each", "data-%d" % n, t, room=room, count=max(lines, 1))
+
+comment("Every start of M, and of M with CRLF line ends.")
+for k in range(len(M)):
+    brief("M-%d-bytes" % k, M[:k])
+C = M.replace(b"\n", b"\r\n")
+for k in range(len(C)):
+    brief("CRLF-%d-bytes" % k, C[:k])
+
+comment("Every start of a text with a longer label, and of one with a full line, from the end of that line on.")
+L = message(b"A-B C", b"Zg==\n")
+for k in range(len(L)):
+    brief("A-B-C-%d-bytes" % k, L[:k])
+T = body(FULL + b"\nZg==\n")
+for k in range(80, len(T)):
+    brief("line-64-4-%d-bytes" % k, T[:k])
+
+comment("M with one byte left out, put twice, or made 0xFF.")
+for k in range(len(M)):
+    brief("M-without-%d" % k, M[:k] + M[k + 1:])
+for k in range(len(M)):
+    brief("M-twice-%d" % k, M[:k + 1] + M[k:])
+for k in range(len(M)):
+    brief("M-0xFF-at-%d" % k, M[:k] + b"\xff" + M[k + 1:])
+
+comment("Texts cut and joined at random.")
+random.seed(7468)
+BASES = [M, C, body(b""), body(b"\n"), body(b"Zm9v\n\n"), body(b"Zg\n==\n"), message(b"A-B", b"Zg==\n"),
+         message(b"", b"\r\n"), body(b"Zm8= \n")]
+PIECES = [b"-", b"-----", b" ", b"\t", b"\r", b"\n", b"\r\n", b"\v", b"\f", b"=", b"==", b"A", b"Zm9v", b"\xff", b"~", b""]
+for k in range(100):
+    t = random.choice(BASES)
+    for _ in range(random.randint(1, 3)):
+        i = random.randint(0, len(t))
+        j = min(len(t), i + random.choice((0, 0, 1, 1, 2, 5)))
+        t = t[:i] + random.choice(PIECES) + t[j:]
+    brief("random-%d" % k, t)
+
+
+def draft_examples(path):
+    """The examples of the document: the margin of three spaces and the page breaks removed."""
+    lines = [l.rstrip("\n") for l in open(path)]
+    footer, header = re.compile(r"^Josefsson .*\[Page \d+\]$"), re.compile(r"^Internet-Draft .* 20\d\d$")
+    example = None
+    for l in lines:
+        if l.startswith("   -----BEGIN ") and l.endswith("-----"):
+            example = []
+        if example is None:
+            continue
+        if l.strip("\f ") == "" or footer.match(l) or header.match(l):
+            continue
+        assert l.startswith("   ") and not l.startswith("    "), l
+        example.append(l[3:])
+        if l.startswith("   -----END "):
+            yield example
+            example = None
+    assert example is None
+
+
+comment("The examples of draft-josefsson-pkix-textual-00, in their order.")
+for k, lines in enumerate(draft_examples(sys.argv[1]), 1):
+    label = lines[0][11:-5]
+    put("each", "draft-%d-%s" % (k, label.replace(" ", "-")), "\n" + "".join(l + "$\n" for l in lines), room=1024)
+
+text = "".join(out)
+assert len(text) <= 65536, len(text)
+sys.stdout.write(text)
