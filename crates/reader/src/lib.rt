@@ -2,21 +2,18 @@
 // The definitions that the contracts cite stand in the crate `reading`.
 ghost use mathlib.Core.Path.{_≡_};
 ghost use mathlib.Core.List.{_++_};
-ghost use Prim.Native.Nat.{_+_, _*_, _-_, _^_, _≤_, _<_, _/_};
+ghost use Prim.Native.Nat.{_+_, _-_, _≤_, _<_};
 ghost use lib.ListN.{length, drop, replicate};
 ghost use Rattle.base64.specs.Alphabet.{Sextet, valueOf};
 ghost use Rattle.base64.specs.Groups.{decode};
 ghost use Rattle.grammar.specs.Message.{characters};
 ghost use Rattle.reading.specs.Data.{sameBytes, HoldsValue, fed, fedByte, spareOf};
-ghost use Rattle.grammar.specs.Marks.{begin, end, hyphens};
 ghost use Rattle.grammar.specs.declared.Numbered.the-variants.{Known};
 ghost use Rattle.machine.specs.Machine.{start};
-ghost use Rattle.reading.specs.Limits.{textLimit, labelLimit};
 ghost use Rattle.reading.specs.Answers.{refusalNumber, refusalPlace, numberOf};
 ghost use Rattle.reading.specs.Meaning.{Reads, HandsBack};
 ghost use Rattle.reading.specs.Scan.{noTally, bodyTallied, tallied, scanOf};
 ghost use Rattle.reading.specs.Read.{Roomy, Fits, Lies, spanned, layoutOf, grammarRefusal, labelsAgree, countsFit, lastAt, spareClear, judgedParts, judgedScan, judgedBy, judgeOf, readOf, outputOf, labelOf};
-use base64::ByteCount;
 use base64::Value;
 use grammar::Grammar;
 use grammar::Numbered;

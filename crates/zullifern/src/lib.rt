@@ -6,7 +6,7 @@ ghost use mathlib.Core.Path.{_≡_};
 ghost use lib.ListN.{length};
 ghost use Rattle.reading.specs.Answers.{numberOf};
 ghost use Rattle.reading.specs.Meaning.{Reads, HandsBack};
-ghost use Rattle.reading.specs.Read.{readOf, outputOf, judgeOf};
+ghost use Rattle.reading.specs.Read.{readOf, outputOf};
 ghost use Rattle.zullifern.specs.Reports.{readReport, refusalReport, foundReport, labelReport, judgedReport, reportedPart};
 use reading::Found;
 use reading::Judgement;
