@@ -1,8 +1,8 @@
 // The machine's code: each function equals its definition in the crate `machine`.
 ghost use mathlib.Core.Path.{_≡_};
 ghost use lib.ListN.{length, getD};
-ghost use Rattle.machine.specs.Kinds.{kindOf, otherKind};
-ghost use Rattle.machine.specs.Machine.{wordOf, wordStep, labelRow, labelTarget, lineEnd, lineChar, linePad, row, laxRow, standardRow, strictRow, target, behind, labelled, beforeStep, next, step, start, accepting, strictAccepting, isAfter, dead, bytePart, boundaryPart, laxPart, standardPart, strictPart, partOf};
+ghost use Rattle.machine.proofs.ByteKinds.{kindOf, otherKind};
+ghost use Rattle.machine.proofs.Machine.{wordOf, wordStep, labelRow, labelTarget, lineEnd, lineChar, linePad, row, laxRow, standardRow, strictRow, target, behind, labelled, beforeStep, next, step, start, accepting, strictAccepting, isAfter, dead, bytePart, boundaryPart, laxPart, standardPart, strictPart, partOf};
 use base64::PAD;
 use base64::Value;
 use base64::value_of;

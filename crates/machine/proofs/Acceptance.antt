@@ -14,8 +14,8 @@ use Rattle.grammar.specs.Message.{Reading, textOf, Shape}
 use Rattle.grammar.specs.Starts.{Parse}
 use Rattle.grammar.specs.declared.Grammar.{Grammar}
 use Rattle.grammar.specs.declared.Grammar.the-variants as grammar
-use Rattle.machine.specs.Machine as m
-use Rattle.machine.specs.Machine.{state, wordOf, behind, run, start, partOf, isAfter, accepting}
+use Rattle.machine.proofs.Machine as m
+use Rattle.machine.proofs.Machine.{state, wordOf, behind, run, start, partOf, isAfter, accepting}
 use Rattle.machine.specs.declared.Boundary.{Boundary}
 use Rattle.machine.specs.declared.Boundary.the-variants.{Opening, Closing}
 use Rattle.machine.specs.declared.LabelPhase.{LabelPhase}

@@ -11,7 +11,7 @@ use Rattle.base64.specs.Alphabet.{AlphabetChar, pad}
 use Rattle.grammar.specs.Marks.{LF, hyphen, Blank, White, LineEnd}
 use Rattle.grammar.specs.Grammars.{LaxBody, StandardLines, BlankLines, StandardBody, StandardAfter, StrictLines, StrictBody}
 use Rattle.grammar.specs.declared.Grammar.{Grammar}
-use Rattle.machine.specs.Machine.{state, run, partOf}
+use Rattle.machine.proofs.Machine.{state, run, partOf}
 use Rattle.machine.specs.declared.Boundary.the-variants.{Closing}
 use Rattle.machine.specs.declared.LaxPhase.{LaxPhase}
 use Rattle.machine.specs.declared.LaxPhase.the-variants as lax

@@ -14,8 +14,8 @@ use Rattle.base64.specs.Alphabet.{pad}
 use Rattle.base64.proofs.Tests.{below-at}
 use Rattle.grammar.specs.Marks.{CR, LF, White, begin, end, hyphen, Label}
 use Rattle.grammar.specs.declared.Grammar.{Grammar}
-use Rattle.machine.specs.Kinds.{kindOf}
-use Rattle.machine.specs.Machine.{state, wordOf, wordStep, labelRow, labelTarget, behind, beforeStep, next, step, run, boundaryPart, partOf, bytePart, trace}
+use Rattle.machine.proofs.ByteKinds.{kindOf}
+use Rattle.machine.proofs.Machine.{state, wordOf, wordStep, labelRow, labelTarget, behind, beforeStep, next, step, run, boundaryPart, partOf, bytePart, trace}
 use Rattle.machine.specs.declared.Boundary.{Boundary}
 use Rattle.machine.specs.declared.Boundary.the-variants.{Opening, Closing}
 use Rattle.machine.specs.declared.LabelPhase.{LabelPhase}

@@ -20,7 +20,7 @@ use Rattle.grammar.specs.declared.Grammar.the-variants as grammar
 use Rattle.grammar.proofs.Runs.{run-unique}
 use Rattle.grammar.proofs.Message.{shape-lax, no-white-hyphen}
 use Rattle.grammar.proofs.Bundle.{text-some, later-shapes}
-use Rattle.machine.specs.Machine.{wordStep, next, step, run, start, accepting, later}
+use Rattle.machine.proofs.Machine.{wordStep, next, step, run, start, accepting, later}
 use Rattle.machine.specs.declared.LaxPhase.the-variants as lax
 use Rattle.machine.specs.declared.StandardPhase.the-variants as standard
 use Rattle.machine.specs.declared.StrictPhase.the-variants as strict

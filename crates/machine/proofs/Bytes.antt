@@ -10,7 +10,7 @@ use Rattle.base64.specs.Alphabet.{radix, pad, alphabet, placeIn, charOf, valueO
 use Rattle.base64.proofs.Alphabet.{char-value}
 use Rattle.base64.proofs.Tests.{both, below-at}
 use Rattle.grammar.specs.Marks.{HT, LF, VT, FF, CR, SP, hyphen, White, LabelChar}
-use Rattle.machine.specs.Kinds.{kindOf, otherKind}
+use Rattle.machine.proofs.ByteKinds.{kindOf, otherKind}
 use Rattle.machine.specs.declared.Kind.{Kind}
 use Rattle.machine.specs.declared.Kind.the-variants.{Alphabet, Mark, Other}
 

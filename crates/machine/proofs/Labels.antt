@@ -9,8 +9,8 @@ use native.Mathlib.Omega.{arith}
 use Rattle.base64.specs.Alphabet.{pad}
 use Rattle.grammar.specs.Marks.{CR, SP, hyphen, hyphens, LabelChar, Separator, LabelChars, last, next, separated, Label, empty, chars}
 use Rattle.grammar.specs.declared.Grammar.{Grammar}
-use Rattle.machine.specs.Kinds.{kindOf}
-use Rattle.machine.specs.Machine.{state, labelRow, labelTarget, behind, run}
+use Rattle.machine.proofs.ByteKinds.{kindOf}
+use Rattle.machine.proofs.Machine.{state, labelRow, labelTarget, behind, run}
 use Rattle.machine.specs.declared.Boundary.{Boundary}
 use Rattle.machine.specs.declared.LabelPhase.{LabelPhase}
 use Rattle.machine.specs.declared.LabelPhase.the-variants.{Start, Char, Space, Hyphen, One, Two, Three, Four}

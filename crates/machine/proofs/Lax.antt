@@ -10,8 +10,8 @@ use Rattle.base64.specs.Alphabet.{AlphabetChar, pad}
 use Rattle.grammar.specs.Marks.{CR, hyphen, Blank, White, LineEnd, crlf, cr, lf}
 use Rattle.grammar.specs.Grammars.{LaxPads, LaxBody, lax, Mixed}
 use Rattle.grammar.specs.declared.Grammar.{Grammar}
-use Rattle.machine.specs.Kinds.{kindOf}
-use Rattle.machine.specs.Machine.{row, laxRow, target, next, state, run, partOf, accepting}
+use Rattle.machine.proofs.ByteKinds.{kindOf}
+use Rattle.machine.proofs.Machine.{row, laxRow, target, next, state, run, partOf, accepting}
 use Rattle.machine.specs.declared.Boundary.the-variants.{Closing}
 use Rattle.machine.specs.declared.LaxPhase.{LaxPhase}
 use Rattle.machine.specs.declared.LaxPhase.the-variants.{Data, OnePad, TwoPads, Closed}

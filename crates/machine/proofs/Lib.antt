@@ -1,4 +1,6 @@
 -- What the machine accepts, in terms of the grammars' relations. Assumes nothing.
+pub mod ByteKinds
+pub mod Machine
 pub mod Bytes
 pub mod Parts
 pub mod Runs

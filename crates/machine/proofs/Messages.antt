@@ -13,7 +13,7 @@ use Rattle.grammar.specs.Message.{Reading, textOf, Shape}
 use Rattle.grammar.specs.Starts.{HasOpening, HasClosing}
 use Rattle.grammar.specs.declared.Grammar.{Grammar}
 use Rattle.grammar.specs.declared.Grammar.the-variants as grammar
-use Rattle.machine.specs.Machine.{state, behind, next, step, run, start, partOf, bytePart, trace, isAfter, accepting}
+use Rattle.machine.proofs.Machine.{state, behind, next, step, run, start, partOf, bytePart, trace, isAfter, accepting}
 use Rattle.machine.specs.declared.Boundary.{Boundary}
 use Rattle.machine.specs.declared.Boundary.the-variants.{Opening, Closing}
 use Rattle.machine.specs.declared.StrictPhase.the-variants as strict

@@ -8,8 +8,8 @@ use native.Mathlib.Omega.{arith}
 use Rattle.grammar.specs.Marks.{CR, LF}
 use Rattle.grammar.specs.declared.Grammar.{Grammar}
 use Rattle.grammar.specs.declared.Grammar.the-variants as grammar
-use Rattle.machine.specs.Kinds.{kindOf}
-use Rattle.machine.specs.Machine.{state, wordOf, wordStep, labelRow, labelTarget, labelled, laxRow, standardRow, strictRow, target, next, step, run, boundaryPart, partOf}
+use Rattle.machine.proofs.ByteKinds.{kindOf}
+use Rattle.machine.proofs.Machine.{state, wordOf, wordStep, labelRow, labelTarget, labelled, laxRow, standardRow, strictRow, target, next, step, run, boundaryPart, partOf}
 use Rattle.machine.specs.declared.Boundary.{Boundary}
 use Rattle.machine.specs.declared.Boundary.the-variants.{Opening, Closing}
 use Rattle.machine.specs.declared.Kind.{Kind}

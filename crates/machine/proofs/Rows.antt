@@ -7,8 +7,8 @@ use Prim.Native.Nat.{ℕ}
 use lib.Dec.{eqb}
 use Rattle.base64.specs.Alphabet.{AlphabetChar, pad}
 use Rattle.grammar.specs.Marks.{VT, FF, CR, hyphen, Blank, LineEnd}
-use Rattle.machine.specs.Kinds.{kindOf}
-use Rattle.machine.specs.Machine.{target, partOf, isAfter, accepting}
+use Rattle.machine.proofs.ByteKinds.{kindOf}
+use Rattle.machine.proofs.Machine.{target, partOf, isAfter, accepting}
 use Rattle.machine.specs.declared.Boundary.the-variants.{Closing}
 use Rattle.machine.specs.declared.Row.{Row}
 use Rattle.machine.specs.declared.Phase.{Phase}

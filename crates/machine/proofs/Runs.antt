@@ -11,8 +11,8 @@ use Rattle.base64.specs.Lists.{All}
 use Rattle.base64.specs.Alphabet.{AlphabetChar}
 use Rattle.grammar.specs.Marks.{CR, LF}
 use Rattle.grammar.specs.declared.Grammar.{Grammar}
-use Rattle.machine.specs.Kinds.{kindOf}
-use Rattle.machine.specs.Machine.{target, state, next, step, run}
+use Rattle.machine.proofs.ByteKinds.{kindOf}
+use Rattle.machine.proofs.Machine.{target, state, next, step, run}
 use Rattle.machine.specs.declared.Phase.{Phase}
 use Rattle.machine.specs.declared.Row.{Row}
 use Rattle.machine.specs.declared.State.{State}

@@ -12,7 +12,7 @@ use Rattle.base64.specs.Alphabet.{AlphabetChar, pad}
 use Rattle.grammar.specs.Marks.{CR, LF, hyphen, Blank, LineEnd}
 use Rattle.grammar.specs.Grammars.{FinalLine, StandardLines, BlankLines, StandardBody, StandardAfter}
 use Rattle.grammar.specs.declared.Grammar.{Grammar}
-use Rattle.machine.specs.Machine.{standardRow, next, state, run, partOf, accepting}
+use Rattle.machine.proofs.Machine.{standardRow, next, state, run, partOf, accepting}
 use Rattle.machine.specs.declared.StandardPhase.{StandardPhase}
 use Rattle.machine.specs.declared.StandardPhase.the-variants as standard
 use Rattle.machine.specs.declared.Phase.the-variants.{Standard}

@@ -13,8 +13,8 @@ use Rattle.grammar.specs.Marks.{CR, LF, hyphen}
 use Rattle.grammar.specs.Starts.{Parse, Begins, LongestStart, HasOpening, HasClosing}
 use Rattle.grammar.specs.declared.Grammar.{Grammar}
 use Rattle.grammar.specs.declared.Grammar.the-variants as grammar
-use Rattle.machine.specs.Kinds.{kindOf}
-use Rattle.machine.specs.Machine.{state, wordOf, wordStep, labelRow, labelTarget, labelled, behind, laxRow, standardRow, strictRow, beforeStep, next, step, run, start, partOf, accepting}
+use Rattle.machine.proofs.ByteKinds.{kindOf}
+use Rattle.machine.proofs.Machine.{state, wordOf, wordStep, labelRow, labelTarget, labelled, behind, laxRow, standardRow, strictRow, beforeStep, next, step, run, start, partOf, accepting}
 use Rattle.machine.specs.declared.Boundary.{Boundary}
 use Rattle.machine.specs.declared.Boundary.the-variants.{Opening, Closing}
 use Rattle.machine.specs.declared.Kind.{Kind}

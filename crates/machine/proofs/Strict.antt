@@ -13,7 +13,7 @@ use Rattle.base64.specs.Alphabet.{AlphabetChar, pad, alphabet, placeIn, valueOf
 use Rattle.grammar.specs.Marks.{CR, LF, hyphen, LineEnd, lf}
 use Rattle.grammar.specs.Grammars.{Groups, StrictLines, StrictBody}
 use Rattle.grammar.specs.declared.Grammar.{Grammar}
-use Rattle.machine.specs.Machine.{lineRoom, lineEnd, lineChar, linePad, strictRow, next, state, run, partOf, accepting}
+use Rattle.machine.proofs.Machine.{lineRoom, lineEnd, lineChar, linePad, strictRow, next, state, run, partOf, accepting}
 use Rattle.machine.specs.declared.Boundary.the-variants.{Closing}
 use Rattle.machine.specs.declared.StrictPhase.{StrictPhase}
 use Rattle.machine.specs.declared.StrictPhase.the-variants as strict

@@ -1,3 +1,1 @@
--- The machine that reads a text of the grammars. Assumes nothing.
-pub mod Kinds
-pub mod Machine
+-- The machine is no matter of belief: its definitions stand in proofs/, with what they accept. Assumes nothing.

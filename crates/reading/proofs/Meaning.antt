@@ -22,7 +22,7 @@ use Rattle.grammar.specs.declared.Grammar.the-variants.{Lax, Standard, Strict}
 use Rattle.grammar.specs.declared.Numbered.{Numbered}
 use Rattle.grammar.specs.declared.Numbered.the-variants.{Known, Unknown}
 use Rattle.grammar.proofs.Message.{reading-unique}
-use Rattle.machine.specs.Machine.{partOf}
+use Rattle.machine.proofs.Machine.{partOf}
 use Rattle.machine.specs.declared.Part.{Part}
 use Rattle.machine.specs.declared.Part.the-variants as part
 use Rattle.machine.proofs.Parts.{rank}

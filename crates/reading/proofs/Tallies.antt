@@ -17,8 +17,8 @@ use Rattle.grammar.specs.Message.{Reading, textOf, characters, padCount}
 use Rattle.grammar.specs.declared.Grammar.{Grammar}
 use Rattle.grammar.proofs.Marks.{pad-no-alphabet}
 use Rattle.grammar.proofs.Counts.{characters-append}
-use Rattle.machine.specs.Kinds.{kindOf}
-use Rattle.machine.specs.Machine.{state, step, run, trace, dead}
+use Rattle.machine.proofs.ByteKinds.{kindOf}
+use Rattle.machine.proofs.Machine.{state, step, run, trace, dead}
 use Rattle.machine.specs.declared.Kind.{Kind}
 use Rattle.machine.specs.declared.Kind.the-variants as kind
 use Rattle.machine.specs.declared.Part.{Part}

@@ -14,7 +14,7 @@ use Rattle.grammar.specs.Message.{Reading, textOf, Shape}
 use Rattle.grammar.specs.Starts.{Parse, LongestStart, HasOpening, HasClosing}
 use Rattle.grammar.specs.declared.Grammar.{Grammar}
 use Rattle.grammar.specs.declared.Grammar.the-variants as grammar
-use Rattle.machine.specs.Machine.{run, start, partOf, trace, accepting, dead}
+use Rattle.machine.proofs.Machine.{run, start, partOf, trace, accepting, dead}
 use Rattle.machine.specs.declared.Phase.{Phase}
 use Rattle.machine.specs.declared.Phase.the-variants as phase
 use Rattle.machine.proofs.Parts.{rank}

@@ -15,7 +15,7 @@ use Rattle.grammar.specs.declared.Grammar.{Grammar}
 use Rattle.grammar.specs.declared.Grammar.the-variants.{Lax, Standard, Strict}
 use Rattle.grammar.specs.declared.Numbered.{Numbered}
 use Rattle.grammar.specs.declared.Numbered.the-variants.{Known, Unknown}
-use Rattle.machine.specs.Machine.{start, partOf, accepting}
+use Rattle.machine.proofs.Machine.{start, partOf, accepting}
 use Rattle.machine.specs.declared.Part.{Part}
 use Rattle.machine.specs.declared.Part.the-variants as part
 use Rattle.reading.specs.Answers.{offset, byteCount, span}
@@ -50,17 +50,7 @@ layoutOf from t =
       closed = span (from + t .before + t .opening + t .body + length end) (t .closing - (length end + length hyphens));
     }
 
--- A tally to which a byte can be added, and the tally of a whole message that starts at an offset: what code that counts
--- has to know.
-abbrev pub Roomy : Tally → Type 0
-Roomy t =
-    (t .before + 1 < 2 ^ 64)
-    × (t .opening + 1 < 2 ^ 64)
-    × (t .body + 1 < 2 ^ 64)
-    × (t .closing + 1 < 2 ^ 64)
-    × (t .characters + 1 < 2 ^ 64)
-    × (t .pads + 1 < 2 ^ 64)
-
+-- The tally of a whole message that starts at an offset: what code that adds it up has to know.
 abbrev pub Fits : ℕ → Tally → Type 0
 Fits from t =
     (from + t .before + t .opening + t .body + t .closing < 2 ^ 64)

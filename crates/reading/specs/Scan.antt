@@ -2,10 +2,10 @@
 -- None of this has to be believed: `Meaning` says what a call answers in terms of the grammars' relations.
 use mathlib.Core.Bool.{cond}
 use mathlib.Core.List.{List, [], _∷_}
-use Prim.Native.Nat.{ℕ, suc, _+_}
+use Prim.Native.Nat.{ℕ, suc, _+_, _^_, _<_}
 use Rattle.grammar.specs.declared.Grammar.{Grammar}
-use Rattle.machine.specs.Kinds.{kindOf}
-use Rattle.machine.specs.Machine.{step, partOf, bytePart, dead}
+use Rattle.machine.proofs.ByteKinds.{kindOf}
+use Rattle.machine.proofs.Machine.{step, partOf, bytePart, dead}
 use Rattle.machine.specs.declared.Kind.{Kind}
 use Rattle.machine.specs.declared.Kind.the-variants as kind
 use Rattle.machine.specs.declared.Part.{Part}
@@ -50,6 +50,16 @@ tallied part.Opening k t = tally (t .before) (t .opening + 1) (t .body) (t .clos
 tallied part.Body k t = bodyTallied k t
 tallied part.Closing k t = tally (t .before) (t .opening) (t .body) (t .closing + 1) (t .characters) (t .pads) (t .last)
 tallied part.After k t = t
+
+-- A tally to which a byte can be added: what code that counts has to know.
+abbrev pub Roomy : Tally → Type 0
+Roomy t =
+    (t .before + 1 < 2 ^ 64)
+    × (t .opening + 1 < 2 ^ 64)
+    × (t .body + 1 < 2 ^ 64)
+    × (t .closing + 1 < 2 ^ 64)
+    × (t .characters + 1 < 2 ^ 64)
+    × (t .pads + 1 < 2 ^ 64)
 
 abbrev pub stopped : State → ℕ → Tally → Scan
 stopped s n t = record { phase = s .phase; length = n; tally = t }

@@ -1,6 +1,6 @@
 -- `machine::before_step` meets its contract, arm by arm. Assumes nothing.
 use mathlib.Core.Path.{sym, ap}
-use Rattle.machine.specs.Machine.{beforeStep}
+use Rattle.machine.proofs.Machine.{beforeStep}
 use borrow.Author.Needs.{needs}
 use Rattle.engine.proofs.before_step.Statement.{statement}
 use Rattle.engine.proofs.before_step.Tie as tie

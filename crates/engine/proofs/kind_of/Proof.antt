@@ -1,6 +1,6 @@
 -- `machine::kind_of` meets its contract: each arm's byte is the one that `kindOf` tests. Assumes nothing.
 use borrow.Author.Tests.{ne-eqb}
-use Rattle.machine.specs.Kinds.{kindOf}
+use Rattle.machine.proofs.ByteKinds.{kindOf}
 use borrow.Author.Needs.{needs}
 use Rattle.engine.proofs.kind_of.Statement.{statement}
 use Rattle.engine.proofs.kind_of.Tie as tie

@@ -1,6 +1,6 @@
 -- `machine::label_row` meets its contract, arm by arm. Assumes nothing.
 use mathlib.Core.Path.{sym, ap}
-use Rattle.machine.specs.Machine.{labelRow}
+use Rattle.machine.proofs.Machine.{labelRow}
 use borrow.Author.Needs.{needs}
 use Rattle.engine.proofs.label_row.Statement.{statement}
 use Rattle.engine.proofs.label_row.Tie as tie

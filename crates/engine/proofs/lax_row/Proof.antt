@@ -1,7 +1,7 @@
 -- `lax_row` meets its contract: each arm has the ways of its phase. Assumes nothing.
 use mathlib.Core.Path.{sym, ap, _∙_}
 use borrow.Author.Needs.{needs}
-use Rattle.machine.specs.Machine.{laxRow}
+use Rattle.machine.proofs.Machine.{laxRow}
 use Rattle.engine.proofs.lax_row.Statement.{statement}
 use Rattle.engine.proofs.lax_row.Tie as tie
 

@@ -1,7 +1,7 @@
 -- `standard_row` meets its contract: each arm has the ways of its phase. Assumes nothing.
 use mathlib.Core.Path.{sym, ap, _∙_}
 use borrow.Author.Needs.{needs}
-use Rattle.machine.specs.Machine.{standardRow}
+use Rattle.machine.proofs.Machine.{standardRow}
 use Rattle.engine.proofs.standard_row.Statement.{statement}
 use Rattle.engine.proofs.standard_row.Tie as tie
 

@@ -1,6 +1,6 @@
 -- `State::start` meets its contract, arm by arm. Assumes nothing.
 use mathlib.Core.Path.{sym, ap}
-use Rattle.machine.specs.Machine.{start}
+use Rattle.machine.proofs.Machine.{start}
 use borrow.Author.Needs.{needs}
 use Rattle.engine.proofs.start.Statement.{statement}
 use Rattle.engine.proofs.start.Tie as tie

@@ -1,7 +1,7 @@
 -- `strict_row` meets its contract: each arm has the ways of its phase. Assumes nothing.
 use mathlib.Core.Path.{sym, ap, _∙_}
 use borrow.Author.Needs.{needs}
-use Rattle.machine.specs.Machine.{strictRow}
+use Rattle.machine.proofs.Machine.{strictRow}
 use Rattle.engine.proofs.strict_row.Statement.{statement}
 use Rattle.engine.proofs.strict_row.Tie as tie
 

@@ -9,7 +9,7 @@ use lib.ListN.{length}
 use borrow.Author.Tests.{eq-eqb, ne-eqb}
 use borrow.Author.Needs.{needs}
 use Rattle.grammar.specs.declared.Grammar.{Grammar}
-use Rattle.machine.specs.Machine.{start, accepting}
+use Rattle.machine.proofs.Machine.{start, accepting}
 use Rattle.reading.specs.Scan.{noTally, scanOf}
 use Rattle.reading.specs.Read.{isWhole}
 use Rattle.reading.specs.declared.Scan.{Scan}

@@ -8,7 +8,7 @@ use lib.ListN.{length, getD}
 use Rattle.grammar.specs.Marks.{CR, LF, begin, end}
 use Rattle.grammar.specs.declared.Grammar.{Grammar}
 use Rattle.grammar.specs.declared.Grammar.the-variants as grammar
-use Rattle.machine.specs.Kinds.{kindOf}
+use Rattle.machine.proofs.ByteKinds.{kindOf}
 use Rattle.machine.specs.declared.Kind.{Kind}
 use Rattle.machine.specs.declared.Kind.the-variants as kind
 use Rattle.machine.specs.declared.Boundary.{Boundary}
