@@ -4,10 +4,10 @@ use mathlib.Core.Bool.{Bool, true, false, cond}
 use mathlib.Core.List.{List, [], _∷_}
 use Prim.Native.Nat.{ℕ, suc, _+_, _-_, _≤_, _<_}
 use native.Mathlib.Omega.{arith}
-use lib.Dec.{T, eqb, eqb→eq}
+use lib.Dec.{T, eqb, ltb, eqb→eq}
 use lib.ListN.{length, getD}
-use borrow.Author.Tests.{eqb-true, lt-ltb}
-use Rattle.base64.specs.Alphabet.{Sextet, AlphabetChar, alphabet, charOf, placeIn, valueOf, pad, answerOf}
+use borrow.Author.Tests.{eqb-true, ltb-true, ltb-false, lt-ltb}
+use Rattle.base64.specs.Alphabet.{radix, Sextet, AlphabetChar, alphabet, charOf, placeIn, valueOf, pad, answerOf}
 use Rattle.base64.specs.declared.Value.the-variants.{Of, Outside}
 use Rattle.base64.proofs.Tests.{run, below-at, run-at}
 
@@ -58,3 +58,35 @@ pub answer-outside : (first n : ℕ) → T (run outside first n) → (c : ℕ) �
 answer-outside first n t c h =
     let e : valueOf c ≡ 64 = eqb→eq _ _ (run-at outside first n t c (h .0) (h .1)) in
     rw (answerOf, e)
+
+-- The place is at most the length.
+place-within : (xs : List ℕ) (c : ℕ) → placeIn xs c ≤ length xs
+unfolding placeIn
+place-within [] c = omega arith
+place-within (x ∷ xs) c = go (eqb x c) (place-within xs c)
+  where
+    go : (here : Bool) → placeIn xs c ≤ length xs → cond here 0 (suc (placeIn xs c)) ≤ length (x ∷ xs)
+    go true h = omega arith
+    go false h = omega arith
+
+-- What an answer of the code tells of the byte.
+pub answer-value : (c v : ℕ) → answerOf c ≡ Of v → Sextet v × (valueOf c ≡ v)
+answer-value c v e = go (ltb (valueOf c) radix) refl e
+  where
+    go : (t : Bool) → ltb (valueOf c) radix ≡ t → cond t (Of (valueOf c)) Outside ≡ Of v → Sextet v × (valueOf c ≡ v)
+    go true h k =
+        let same : valueOf c ≡ v = cc in
+        (omega (arith, ltb-true (valueOf c) radix h), same)
+    go false h k =
+        let z : _≡_ {A = ℕ} 0 1 = cc in
+        absurd (omega arith)
+
+pub answer-none : (c : ℕ) → answerOf c ≡ Outside → valueOf c ≡ radix
+unfolding valueOf alphabet
+answer-none c e = go (ltb (valueOf c) radix) refl e
+  where
+    go : (t : Bool) → ltb (valueOf c) radix ≡ t → cond t (Of (valueOf c)) Outside ≡ Outside → valueOf c ≡ radix
+    go true h k =
+        let z : _≡_ {A = ℕ} 0 1 = cc in
+        absurd (omega arith)
+    go false h k = omega (arith, ltb-false (valueOf c) radix h, place-within alphabet c)

@@ -9,9 +9,10 @@ use native.Mathlib.Numerals.{add-one}
 use lib.Dec.{eqb, ltb}
 use lib.ListN.{length, drop, take, getD, set, replicate, length-drop, length-replicate, drop-of-length-le}
 use lib.Seq.{drop-cons, take-suc, append-snoc, set-at, length-take-le, take-length}
-use borrow.Author.Tests.{eqb-true, eq-eqb, ltb-true, ltb-false, lt-ltb}
-use Rattle.base64.specs.Alphabet.{radix, Sextet, alphabet, placeIn, valueOf, answerOf}
+use borrow.Author.Tests.{eqb-true, eq-eqb, ltb-true, lt-ltb}
+use Rattle.base64.specs.Alphabet.{radix, Sextet, valueOf, answerOf}
 use Rattle.base64.specs.declared.Value.the-variants.{Of, Outside}
+use Rattle.base64.proofs.Alphabet.{answer-value, answer-none}
 use Rattle.base64.specs.Groups.{toBytes, valuesOf, spareBits, decode}
 use Rattle.grammar.specs.Message.{characters}
 use Rattle.reading.specs.declared.Open.{Open}
@@ -57,40 +58,7 @@ same-next a b i ha hb = rw (add-one, drop-cons a i 0, drop-cons b i 0)
 
 -- ---- what a byte stands for
 
-place-within : (xs : List ℕ) (c : ℕ) → placeIn xs c ≤ length xs
-unfolding placeIn
-place-within [] c = omega arith
-place-within (x ∷ xs) c = go (eqb x c) (place-within xs c)
-  where
-    go : (here : Bool) → placeIn xs c ≤ length xs → cond here 0 (suc (placeIn xs c)) ≤ length (x ∷ xs)
-    go true h = omega arith
-    go false h = omega arith
-
-pub answer-value : (c v : ℕ) → answerOf c ≡ Of v → Sextet v × (valueOf c ≡ v)
-answer-value c v e = go (ltb (valueOf c) radix) refl e
-  where
-    go : (t : Bool) → ltb (valueOf c) radix ≡ t → cond t (Of (valueOf c)) Outside ≡ Of v → Sextet v × (valueOf c ≡ v)
-    go true h k =
-        let same : valueOf c ≡ v = cc in
-        (omega (arith, ltb-true (valueOf c) radix h), same)
-    go false h k =
-        let z : _≡_ {A = ℕ} 0 1 = cc in
-        absurd (omega arith)
-
-pub answer-none : (c : ℕ) → answerOf c ≡ Outside → valueOf c ≡ radix
-unfolding valueOf alphabet
-answer-none c e = go (ltb (valueOf c) radix) refl e
-  where
-    go : (t : Bool) → ltb (valueOf c) radix ≡ t → cond t (Of (valueOf c)) Outside ≡ Outside → valueOf c ≡ radix
-    go true h k =
-        let z : _≡_ {A = ℕ} 0 1 = cc in
-        absurd (omega arith)
-    go false h k = omega (arith, ltb-false (valueOf c) radix h, place-within alphabet c)
-
 -- ---- spare bits
-
-pub spare-none : spareBits (valuesOf []) ≡ 0
-spare-none = refl
 
 -- The last character alone gives them, with how many there are.
 pub spare-last : (xs : List ℕ) (c : ℕ) → spareBits (valuesOf (xs ++ (c ∷ []))) ≡ spareOf (length (xs ++ (c ∷ []))) (valueOf c)
@@ -102,14 +70,6 @@ spare-last (x ∷ y ∷ z ∷ w ∷ r) c =
     let n = length (r ++ (c ∷ [])) in
     let four : suc (suc (suc (suc n))) % 4 ≡ n % 4 = omega arith in
     rw four (spare-last r c)
-
--- Whole groups have none.
-pub spare-whole : (cs : List ℕ) → length cs % 4 ≡ 0 → spareBits (valuesOf cs) ≡ 0
-spare-whole [] h = refl
-spare-whole (x ∷ []) h = refl
-spare-whole (x ∷ y ∷ []) h = absurd (omega arith)
-spare-whole (x ∷ y ∷ z ∷ []) h = absurd (omega arith)
-spare-whole (x ∷ y ∷ z ∷ w ∷ r) h = spare-whole r (omega arith)
 
 -- The value of a byte outside the alphabet has none.
 pub spare-outside : (count : ℕ) → spareOf count radix ≡ 0

@@ -1,7 +1,7 @@
 -- The scan of a text: what its tally keeps to, and how the loop of `scan_text` comes to it. Assumes nothing.
 use mathlib.Core.Path.{_≡_}
-use mathlib.Core.Bool.{Bool, true, false, cond}
-use mathlib.Core.List.{List, [], _∷_}
+use mathlib.Core.Bool.{true, false}
+use mathlib.Core.List.{List}
 use Prim.Native.Nat.{ℕ, suc, _+_, _-_, _≤_, _<_}
 use native.Mathlib.Omega.{arith}
 use native.Mathlib.Numerals.{add-one}
@@ -15,7 +15,6 @@ use Rattle.machine.specs.declared.Kind.the-variants as kind
 use Rattle.machine.specs.declared.Part.{Part}
 use Rattle.machine.specs.declared.Part.the-variants as part
 use Rattle.machine.specs.declared.State.{State}
-use Rattle.reading.specs.declared.Scan.{Scan}
 use Rattle.reading.specs.declared.Tally.{Tally}
 use Rattle.reading.specs.Scan.{noTally, bodyTallied, tallied, stopped, scanOf}
 
@@ -47,31 +46,6 @@ within-next part.Opening k w = omega arith
 within-next part.Body k w = within-body k w
 within-next part.Closing k w = omega arith
 within-next part.After k w = omega arith
-
--- ---- the whole scan
-
-abbrev WithinScan : Scan → Type 0
-WithinScan s = Within (s .tally) (s .length)
-
-within-either : (gone : Bool) (x y : Scan) → WithinScan x → WithinScan y → WithinScan (cond gone x y)
-within-either true x y v w = v
-within-either false x y v w = w
-
-within-scan : (g : Grammar) (s : State) (n : ℕ) (t : Tally) (l : List ℕ) → Within t n → WithinScan (scanOf g s n t l)
-within-scan g s n t [] w = w
-within-scan g s n t (c ∷ l) w =
-    let next = step g s c in
-    let at = bytePart (partOf (s .phase)) (partOf (next .phase)) in
-    within-either (dead (next .phase)) _ _ w (within-scan g next (suc n) (tallied at (kindOf c) t) l (within-next at (kindOf c) w))
-
-pub scan-within : (g : Grammar) (first : State) (l : List ℕ)
-    → Within ((scanOf g first 0 noTally l) .tally) ((scanOf g first 0 noTally l) .length)
-scan-within g first l = within-scan g first 0 noTally l within-none
-
-pub scan-last : (g : Grammar) (first : State) (l : List ℕ) → (scanOf g first 0 noTally l) .tally .last ≤ (scanOf g first 0 noTally l) .tally .body
-scan-last g first l = scan-within g first l .last
-
--- ---- the loop
 
 -- The state and the tally before the byte i: the rest of the text from there on gives the whole scan.
 pub record Reached (g : Grammar) (first : State) (from : ℕ) (text : List ℕ) (s : State) (t : Tally) (i : ℕ) : Type 0 where

@@ -1,4 +1,4 @@
--- `machine::before_step` meets its contract, arm by arm. Assumes nothing.
+-- `engine::before_step` meets its contract, arm by arm. Assumes nothing.
 use mathlib.Core.Path.{sym, ap}
 use Rattle.machine.proofs.Machine.{beforeStep}
 use borrow.Author.Needs.{needs}

@@ -1,4 +1,4 @@
--- `machine::behind_boundary` meets its contract, arm by arm. Assumes nothing.
+-- `engine::behind_boundary` meets its contract, arm by arm. Assumes nothing.
 use borrow.Author.Needs.{needs}
 use Rattle.engine.proofs.behind_boundary.Statement.{statement}
 use Rattle.engine.proofs.behind_boundary.Tie as tie

@@ -1,4 +1,4 @@
--- `machine::kind_of` meets its contract: each arm's byte is the one that `kindOf` tests. Assumes nothing.
+-- `engine::kind_of` meets its contract: each arm's byte is the one that `kindOf` tests. Assumes nothing.
 use borrow.Author.Tests.{ne-eqb}
 use Rattle.machine.proofs.ByteKinds.{kindOf}
 use borrow.Author.Needs.{needs}

@@ -1,4 +1,4 @@
--- `machine::label_phase` meets its contract, arm by arm. Assumes nothing.
+-- `engine::label_phase` meets its contract, arm by arm. Assumes nothing.
 use borrow.Author.Needs.{needs}
 use Rattle.engine.proofs.label_phase.Statement.{statement}
 use Rattle.engine.proofs.label_phase.Tie as tie

@@ -1,4 +1,4 @@
--- `machine::label_row` meets its contract, arm by arm. Assumes nothing.
+-- `engine::label_row` meets its contract, arm by arm. Assumes nothing.
 use mathlib.Core.Path.{sym, ap}
 use Rattle.machine.proofs.Machine.{labelRow}
 use borrow.Author.Needs.{needs}

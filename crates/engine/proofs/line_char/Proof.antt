@@ -1,4 +1,4 @@
--- `machine::line_char` meets its contract: the code's test is that of `lineChar`. Assumes nothing.
+-- `engine::line_char` meets its contract: the code's test is that of `lineChar`. Assumes nothing.
 use borrow.Author.Tests.{eq-eqb, ne-eqb}
 use borrow.Author.Needs.{needs}
 use Rattle.engine.proofs.line_char.Statement.{statement}

@@ -1,4 +1,4 @@
--- `machine::line_end` meets its contract: the code's tests are those of `lineEnd`. Assumes nothing.
+-- `engine::line_end` meets its contract: the code's tests are those of `lineEnd`. Assumes nothing.
 use borrow.Author.Tests.{eq-eqb, ne-eqb}
 use Rattle.engine.proofs.line_end.Statement.{statement}
 use Rattle.engine.proofs.line_end.Tie as tie

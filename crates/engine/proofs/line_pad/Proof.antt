@@ -1,4 +1,4 @@
--- `machine::line_pad` meets its contract: the code's tests are those of `linePad`. Assumes nothing.
+-- `engine::line_pad` meets its contract: the code's tests are those of `linePad`. Assumes nothing.
 use borrow.Author.Tests.{eq-eqb, ne-eqb}
 use Rattle.engine.proofs.line_pad.Statement.{statement}
 use Rattle.engine.proofs.line_pad.Tie as tie

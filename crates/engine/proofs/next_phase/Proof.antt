@@ -1,4 +1,4 @@
--- `machine::next_phase` meets its contract, arm by arm. Assumes nothing.
+-- `engine::next_phase` meets its contract, arm by arm. Assumes nothing.
 use borrow.Author.Needs.{needs}
 use Rattle.engine.proofs.next_phase.Statement.{statement}
 use Rattle.engine.proofs.next_phase.Tie as tie

@@ -1,30 +1,25 @@
--- `machine::other_kind` meets its contract: the answer for the byte tells whether its value is below the radix. Assumes nothing.
-use mathlib.Core.Path.{_≡_, refl, sym, _∙_}
-use mathlib.Core.Bool.{Bool, true, false, cond}
+-- `engine::other_kind` meets its contract: the answer for the byte tells whether its value is below the radix. Assumes nothing.
+use mathlib.Core.Path.{_≡_, sym, _∙_}
+use mathlib.Core.Bool.{true, false}
 use Prim.Native.Nat.{ℕ}
 use lib.Dec.{ltb}
 use borrow.Author.Tests.{lt-ltb, le-ltb}
 use Rattle.base64.specs.Alphabet.{radix, valueOf, answerOf}
 use Rattle.base64.specs.declared.Value.{Value}
 use Rattle.base64.specs.declared.Value.the-variants.{Of, Outside}
+use Rattle.base64.proofs.Alphabet.{answer-value, answer-none}
 use borrow.Author.Needs.{needs}
 use Rattle.engine.proofs.other_kind.Statement.{statement}
 use Rattle.engine.proofs.other_kind.Tie as tie
 
 -- What the answer r for a byte tells of its value.
 of-below : (c : ℕ) {r : Value} {v : ℕ} → r ≡ answerOf c → r ≡ Of v → ltb (valueOf c) radix ≡ true
-of-below c {r} {v} e f = go (ltb (valueOf c) radix) (sym e ∙ f)
-  where
-    go : (below : Bool) → cond below (Of (valueOf c)) Outside ≡ Of v → below ≡ true
-    go true h = refl
-    go false h = cc
+of-below c {r} {v} e f =
+    let h = answer-value c v (sym e ∙ f) in
+    rw (h .1) (lt-ltb v radix (h .0))
 
 outside-not : (c : ℕ) {r : Value} → r ≡ answerOf c → r ≡ Outside → ltb (valueOf c) radix ≡ false
-outside-not c e f = go (ltb (valueOf c) radix) (sym e ∙ f)
-  where
-    go : (below : Bool) → cond below (Of (valueOf c)) Outside ≡ Outside → below ≡ false
-    go true h = cc
-    go false h = refl
+outside-not c e f = rw (answer-none c (sym e ∙ f))
 
 value-of-requires : tie.Need-value-of-requires
 value-of-requires c κs = search needs

@@ -1,4 +1,4 @@
--- `State::start` meets its contract, arm by arm. Assumes nothing.
+-- `engine::start` meets its contract, arm by arm. Assumes nothing.
 use mathlib.Core.Path.{sym, ap}
 use Rattle.machine.proofs.Machine.{start}
 use borrow.Author.Needs.{needs}

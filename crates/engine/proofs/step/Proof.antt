@@ -1,4 +1,4 @@
--- `State::step` meets its contract: the code's tests are those of `step`. Assumes nothing.
+-- `engine::step` meets its contract: the code's tests are those of `step`. Assumes nothing.
 use mathlib.Core.Logic.{⊎-elim}
 use borrow.Author.Tests.{eq-eqb, ne-eqb}
 use borrow.Author.Needs.{needs}

@@ -1,4 +1,4 @@
--- `machine::word_byte` meets its contract: the arrays are the lists of `wordOf`, and behind a list's end stands 0. Assumes nothing.
+-- `engine::word_byte` meets its contract: the arrays are the lists of `wordOf`, and behind a list's end stands 0. Assumes nothing.
 use mathlib.Core.Path.{sym}
 use lib.ListN.{List·getD-eq-default}
 use Rattle.grammar.specs.Marks.{begin, end}

@@ -1,4 +1,4 @@
--- `machine::word_step` meets its contract: the code's tests are those of `wordStep`. Assumes nothing.
+-- `engine::word_step` meets its contract: the code's tests are those of `wordStep`. Assumes nothing.
 use mathlib.Core.Path.{_∙_}
 use native.Mathlib.Numerals.{add-one}
 use borrow.Author.Tests.{eq-eqb, ne-eqb, lt-ltb, le-ltb}

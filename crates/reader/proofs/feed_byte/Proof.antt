@@ -1,7 +1,8 @@
 -- `reader::feed_byte` meets its contract. Assumes nothing.
 use mathlib.Core.Path.{sym, _∙_}
 use borrow.Author.Needs.{needs}
-use Rattle.reading.proofs.Data.{answer-value, fed-inside, fed-outside}
+use Rattle.base64.proofs.Alphabet.{answer-value}
+use Rattle.reading.proofs.Data.{fed-inside, fed-outside}
 use Rattle.reader.proofs.feed_byte.Statement.{statement}
 use Rattle.reader.proofs.feed_byte.Tie as tie
 

@@ -3,7 +3,8 @@ use mathlib.Core.Path.{_≡_, sym, _∙_}
 use borrow.Author.Needs.{needs}
 use borrow.Author.Tests.{ne-eqb}
 use Rattle.base64.specs.Alphabet.{valueOf}
-use Rattle.reading.proofs.Data.{answer-value, answer-none, spare-outside}
+use Rattle.base64.proofs.Alphabet.{answer-value, answer-none}
+use Rattle.reading.proofs.Data.{spare-outside}
 use Rattle.reader.proofs.spare_bits.Statement.{statement}
 use Rattle.reader.proofs.spare_bits.Tie as tie
 
