@@ -3,6 +3,7 @@ pub mod Data
 pub mod Tallies
 pub mod Places
 pub mod Checks
+pub mod Judgements
 pub mod Whole
 pub mod Meaning
 pub mod Scans

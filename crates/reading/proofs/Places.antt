@@ -13,14 +13,14 @@ use Rattle.reading.specs.Scan.{tally}
 use Rattle.reading.specs.Read.{spanned, layoutOf}
 use Rattle.reading.specs.declared.Layout.{Layout}
 
--- Where the parts of a reading are in its text.
-abbrev pub readingLayout : Reading → Layout
-readingLayout r =
+-- Where the parts of a reading are, whose text starts at an offset.
+abbrev pub readingLayout : ℕ → Reading → Layout
+readingLayout from r =
     record {
-      opened = span (labelStart r) (length (r .openingLabel));
-      body = span (bodyStart r) (length (r .body));
-      closing = offset (closingStart r);
-      closed = span (closingLabelStart r) (length (r .closingLabel));
+      opened = span (from + labelStart r) (length (r .openingLabel));
+      body = span (from + bodyStart r) (length (r .body));
+      closing = offset (from + closingStart r);
+      closed = span (from + closingLabelStart r) (length (r .closingLabel));
     }
 
 -- The length of a boundary.
@@ -39,9 +39,10 @@ six-same : {a a′ b b′ c c′ d d′ e e′ f f′ h h′ : ℕ} → (a ≡ a
 six-same (p, q, r, s, t, u, v) = rw (p, q, r, s, t, u, v)
 
 -- The layout that the numbers of a reading's bytes give.
-pub layout-reading : (r : Reading) (n p k : ℕ)
-    → layoutOf 0 (tally (length (r .before)) (length (opening (r .openingLabel))) (length (r .body)) (length (closing (r .closingLabel))) n p k) ≡ readingLayout r
-layout-reading r n p k =
+pub layout-reading : (from : ℕ) (r : Reading) (n p k : ℕ)
+    → layoutOf from (tally (length (r .before)) (length (opening (r .openingLabel))) (length (r .body)) (length (closing (r .closingLabel))) n p k)
+    ≡ readingLayout from r
+layout-reading from r n p k =
     let o : length (opening (r .openingLabel)) ≡ length (r .openingLabel) + 16 = opening-length (r .openingLabel) in
     let c : length (closing (r .closingLabel)) ≡ length (r .closingLabel) + 14 = closing-length (r .closingLabel) in
     six-same (omega arith)
@@ -50,35 +51,48 @@ layout-reading r n p k =
 pub part-between : (a x b : List ℕ) (n k : ℕ) → length a ≡ n → length x ≡ k → spanned (a ++ (x ++ b)) (span n k) ≡ x
 part-between a x b n k e f = ap (take k) (drop-at a (x ++ b) n e) ∙ take-at x b k f
 
--- The three parts of a reading's text that are read again, each between what stands before and behind it.
-label-cut : (r : Reading) → textOf r ≡ (r .before ++ begin) ++ (r .openingLabel ++ (hyphens ++ (r .body ++ (closing (r .closingLabel) ++ r .after))))
-label-cut r = simp append-assoc
+-- The three parts of a reading that are read again, each between what stands before and behind it in a text.
+label-cut : (front : List ℕ) (r : Reading) (back : List ℕ)
+    → front ++ (textOf r ++ back)
+    ≡ (front ++ (r .before ++ begin)) ++ (r .openingLabel ++ (hyphens ++ (r .body ++ (closing (r .closingLabel) ++ (r .after ++ back)))))
+label-cut front r back = simp append-assoc
 
-pub body-cut : (r : Reading) → textOf r ≡ (r .before ++ opening (r .openingLabel)) ++ (r .body ++ (closing (r .closingLabel) ++ r .after))
-body-cut r = simp append-assoc
+pub body-cut : (front : List ℕ) (r : Reading) (back : List ℕ)
+    → front ++ (textOf r ++ back) ≡ (front ++ (r .before ++ opening (r .openingLabel))) ++ (r .body ++ (closing (r .closingLabel) ++ (r .after ++ back)))
+body-cut front r back = simp append-assoc
 
-closing-label-cut : (r : Reading)
-    → textOf r ≡ ((r .before ++ opening (r .openingLabel)) ++ (r .body ++ end)) ++ (r .closingLabel ++ (hyphens ++ r .after))
-closing-label-cut r = simp append-assoc
+closing-label-cut : (front : List ℕ) (r : Reading) (back : List ℕ)
+    → front ++ (textOf r ++ back)
+    ≡ (front ++ (r .before ++ (opening (r .openingLabel) ++ (r .body ++ end)))) ++ (r .closingLabel ++ (hyphens ++ (r .after ++ back)))
+closing-label-cut front r back = simp append-assoc
 
-pub label-part : (r : Reading) → spanned (textOf r) (span (labelStart r) (length (r .openingLabel))) ≡ r .openingLabel
-label-part r =
-    ap (λ t. spanned t (span (labelStart r) (length (r .openingLabel)))) (label-cut r)
-    ∙ part-between (r .before ++ begin) (r .openingLabel) _ (labelStart r) (length (r .openingLabel)) (length-append (r .before) begin) refl
+pub label-part : (front : List ℕ) (r : Reading) (back : List ℕ)
+    → spanned (front ++ (textOf r ++ back)) (span (length front + labelStart r) (length (r .openingLabel))) ≡ r .openingLabel
+label-part front r back =
+    ap (λ t. spanned t (span (length front + labelStart r) (length (r .openingLabel)))) (label-cut front r back)
+    ∙ part-between (front ++ (r .before ++ begin)) (r .openingLabel) _ (length front + labelStart r) (length (r .openingLabel)) (simp length-append) refl
 
-pub body-part : (r : Reading) → spanned (textOf r) (span (bodyStart r) (length (r .body))) ≡ r .body
-body-part r =
-    ap (λ t. spanned t (span (bodyStart r) (length (r .body)))) (body-cut r)
-    ∙ part-between (r .before ++ opening (r .openingLabel)) (r .body) _ (bodyStart r) (length (r .body)) (length-append (r .before) (opening (r .openingLabel))) refl
+-- How many bytes stand before a body.
+pub body-front : (front : List ℕ) (r : Reading) → length (front ++ (r .before ++ opening (r .openingLabel))) ≡ length front + bodyStart r
+body-front front r = omega (arith, length-append front (r .before ++ opening (r .openingLabel)), length-append (r .before) (opening (r .openingLabel)))
 
-pub closing-label-part : (r : Reading) → spanned (textOf r) (span (closingLabelStart r) (length (r .closingLabel))) ≡ r .closingLabel
-closing-label-part r =
-    ap (λ t. spanned t (span (closingLabelStart r) (length (r .closingLabel)))) (closing-label-cut r)
-    ∙ part-between ((r .before ++ opening (r .openingLabel)) ++ (r .body ++ end)) (r .closingLabel) _ (closingLabelStart r) (length (r .closingLabel))
+pub body-part : (front : List ℕ) (r : Reading) (back : List ℕ)
+    → spanned (front ++ (textOf r ++ back)) (span (length front + bodyStart r) (length (r .body))) ≡ r .body
+body-part front r back =
+    ap (λ t. spanned t (span (length front + bodyStart r) (length (r .body)))) (body-cut front r back)
+    ∙ part-between (front ++ (r .before ++ opening (r .openingLabel))) (r .body) _ (length front + bodyStart r) (length (r .body)) (body-front front r) refl
+
+pub closing-label-part : (front : List ℕ) (r : Reading) (back : List ℕ)
+    → spanned (front ++ (textOf r ++ back)) (span (length front + closingLabelStart r) (length (r .closingLabel))) ≡ r .closingLabel
+closing-label-part front r back =
+    ap (λ t. spanned t (span (length front + closingLabelStart r) (length (r .closingLabel)))) (closing-label-cut front r back)
+    ∙ part-between (front ++ (r .before ++ (opening (r .openingLabel) ++ (r .body ++ end)))) (r .closingLabel) _
+    (length front + closingLabelStart r) (length (r .closingLabel))
     (omega (
       arith,
-      length-append (r .before ++ opening (r .openingLabel)) (r .body ++ end),
-      length-append (r .before) (opening (r .openingLabel)),
+      length-append front (r .before ++ (opening (r .openingLabel) ++ (r .body ++ end))),
+      length-append (r .before) (opening (r .openingLabel) ++ (r .body ++ end)),
+      length-append (opening (r .openingLabel)) (r .body ++ end),
       length-append (r .body) end,
     ))
     refl

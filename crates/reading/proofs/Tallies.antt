@@ -18,7 +18,7 @@ use Rattle.grammar.specs.declared.Grammar.{Grammar}
 use Rattle.grammar.proofs.Marks.{pad-no-alphabet}
 use Rattle.grammar.proofs.Counts.{characters-append}
 use Rattle.machine.proofs.ByteKinds.{kindOf}
-use Rattle.machine.proofs.Machine.{state, step, run, trace, dead}
+use Rattle.machine.proofs.Machine.{state, step, run, partOf, bytePart, trace, dead}
 use Rattle.machine.specs.declared.Kind.{Kind}
 use Rattle.machine.specs.declared.Kind.the-variants as kind
 use Rattle.machine.specs.declared.Part.{Part}
@@ -272,26 +272,39 @@ live-scan g s n t (c ∷ l) h =
     let next : n + suc (length l) ≡ suc n + length l = omega arith in
     rw (lived g (step g s c) l h, next) (live-scan g (step g s c) (suc n) _ l h)
 
--- How many bytes a scan reads: the machine lives behind them, and the list ends there or the next byte kills it.
-pub record Stops (g : Grammar) (s : State) (n : ℕ) (l : List ℕ) (r : Scan) : Type 0 where
+-- How many bytes a scan reads: the machine lives behind them, and the list ends there or the next byte kills it. They are
+-- tallied.
+pub record Stops (g : Grammar) (s : State) (n : ℕ) (t : Tally) (l : List ℕ) (r : Scan) : Type 0 where
   pub bytes : ℕ
   pub within : bytes ≤ length l
   pub counted : r .length ≡ n + bytes
   pub reached : r .phase ≡ (run g s (take bytes l)) .phase
+  pub summed : r .tally ≡ tallyList (trace g s (take bytes l)) (take bytes l) t
   pub lives : dead (r .phase) ≡ false
   pub ends : (bytes ≡ length l) ⊎ ((run g s (take (suc bytes) l)) .phase ≡ Dead)
 
 -- A scan from a live state stops so.
-pub scan-stops : (g : Grammar) (s : State) (n : ℕ) (t : Tally) (l : List ℕ) → dead (s .phase) ≡ false → Stops g s n l (scanOf g s n t l)
-scan-stops g s n t [] h = record { bytes = 0; within = omega arith; counted = sym (add-zero n); reached = refl; lives = h; ends = inl refl }
+pub scan-stops : (g : Grammar) (s : State) (n : ℕ) (t : Tally) (l : List ℕ) → dead (s .phase) ≡ false → Stops g s n t l (scanOf g s n t l)
+scan-stops g s n t [] h =
+    record { bytes = 0; within = omega arith; counted = sym (add-zero n); reached = refl; summed = refl; lives = h; ends = inl refl }
 scan-stops g s n t (c ∷ l) h = go (dead ((step g s c) .phase)) refl _ (scan-stops g (step g s c) (suc n) _ l)
   where
-    go : (d : Bool) → dead ((step g s c) .phase) ≡ d → (r : Scan) → (dead ((step g s c) .phase) ≡ false → Stops g (step g s c) (suc n) l r)
-        → Stops g s n (c ∷ l) (cond d (stopped s n t) r)
-    go true e r f = record { bytes = 0; within = omega arith; counted = sym (add-zero n); reached = refl; lives = h; ends = inr (dead-phase _ e) }
+    go : (d : Bool) → dead ((step g s c) .phase) ≡ d → (r : Scan)
+        → (dead ((step g s c) .phase) ≡ false → Stops g (step g s c) (suc n) (tallied (bytePart (partOf (s .phase)) (partOf ((step g s c) .phase))) (kindOf c) t) l r)
+        → Stops g s n t (c ∷ l) (cond d (stopped s n t) r)
+    go true e r f =
+        record { bytes = 0; within = omega arith; counted = sym (add-zero n); reached = refl; summed = refl; lives = h; ends = inr (dead-phase _ e) }
     go false e r f =
         let k = f e in
-        record { bytes = suc (k .bytes); within = omega arith; counted = omega arith; reached = k .reached; lives = k .lives; ends = further (k .bytes) (k .ends) }
+        record {
+          bytes = suc (k .bytes);
+          within = omega arith;
+          counted = omega arith;
+          reached = k .reached;
+          summed = k .summed;
+          lives = k .lives;
+          ends = further (k .bytes) (k .ends);
+        }
       where
         further : (m : ℕ) → (m ≡ length l) ⊎ ((run g (step g s c) (take (suc m) l)) .phase ≡ Dead)
             → (suc m ≡ length (c ∷ l)) ⊎ ((run g s (take (suc (suc m)) (c ∷ l))) .phase ≡ Dead)

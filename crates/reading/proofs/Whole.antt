@@ -3,11 +3,10 @@
 use mathlib.Core.Path.{_≡_, refl, sym, ap, _∙_}
 use mathlib.Core.Logic.{_≢_}
 use mathlib.Core.Bool.{Bool, true, false, cond, true≢false}
-use mathlib.Core.List.{List}
+use mathlib.Core.List.{List, [], _∷_, _++_, append-nil}
 use Prim.Native.Nat.{ℕ, _+_, _≤_}
 use lib.Dec.{eqb}
-use lib.ListN.{length, take}
-use lib.Seq.{take-all}
+use lib.ListN.{length, take, drop, length-append, length-take, take-append-drop}
 use native.Mathlib.Omega.{arith}
 use borrow.Author.Tests.{eqb-true, eq-eqb}
 use Rattle.grammar.specs.Message.{Reading, textOf, Shape}
@@ -25,6 +24,7 @@ use Rattle.machine.proofs.Starts.{lives-longest, opening-rank, closing-rank}
 use Rattle.reading.specs.Scan.{noTally, stopped, scanOf}
 use Rattle.reading.specs.Read.{isWhole}
 use Rattle.reading.specs.declared.Scan.{Scan}
+use Rattle.reading.proofs.Judgements.{Tells}
 use Rattle.reading.proofs.Tallies.{tallyList, tallyOf, tally-reading, live-scan, Stops, scan-stops}
 
 -- The scan of a text from its start.
@@ -48,22 +48,40 @@ accepting-live phase.Dead e = absurd (true≢false (sym e))
 live-not-dead : (p : Phase) → dead p ≡ false → p ≢ phase.Dead
 live-not-dead p e q = true≢false (sym (ap dead q) ∙ e)
 
-stops : (g : Grammar) (text : List ℕ) → Stops g (start g) 0 text (scanned g text)
+pub stops : (g : Grammar) (text : List ℕ) → Stops g (start g) 0 noTally text (scanned g text)
 stops g text = scan-stops g (start g) 0 noTally text (start-live g)
+
+-- A message that a scan has read: its text stands at the front, and the scan's numbers are those of its parts.
+pub record MessageRead (g : Grammar) (text : List ℕ) : Type 0 where
+  pub reading : Reading
+  pub rest : List ℕ
+  pub joined : text ≡ textOf reading ++ rest
+  pub shape : Shape g reading
+  pub counted : (scanned g text) .tally ≡ tallyOf reading
+  pub ends : (scanned g text) .length ≡ length (textOf reading)
+
+-- Where the machine accepts what the scan has read, that is a message.
+pub message-read : (g : Grammar) (text : List ℕ) → accepting ((scanned g text) .phase) ≡ true → MessageRead g text
+message-read g text h =
+    let k : ℕ = stops g text .bytes in
+    let p : messages.Parsed g (take k text) = accepted-parses g (take k text) (sym (ap accepting (stops g text .reached)) ∙ h) in
+    record {
+      reading = p .reading;
+      rest = drop k text;
+      joined = sym (take-append-drop k text) ∙ ap (λ l. l ++ drop k text) (p .joined);
+      shape = p .shape;
+      counted =
+          stops g text .summed
+          ∙ ap (λ ps. tallyList ps (take k text) noTally) (p .parts)
+          ∙ ap (λ l. tallyList (partsOf (p .reading)) l noTally) (p .joined)
+          ∙ tally-reading (p .reading);
+      ends = omega (arith, stops g text .counted, stops g text .within, length-take k text, ap length (p .joined));
+    }
 
 -- What the two tests of a whole scan say.
 whole-tests : (a b : Bool) → cond a b false ≡ true → (a ≡ true) × (b ≡ true)
 whole-tests true b e = (refl, e)
 whole-tests false b e = absurd (true≢false (sym e))
-
--- A whole scan has read the text, and the machine accepts it.
-whole-accepted : (g : Grammar) (text : List ℕ) → isWhole (scanned g text) (length text) ≡ true → accepting ((run g (start g) text) .phase) ≡ true
-whole-accepted g text e =
-    let w : (eqb ((scanned g text) .length) (length text) ≡ true) × (accepting ((scanned g text) .phase) ≡ true) = whole-tests _ _ e in
-    let n : length text ≤ stops g text .bytes = omega (arith, eqb-true ((scanned g text) .length) (length text) (w .0), stops g text .counted) in
-    ap (λ l. accepting ((run g (start g) l) .phase)) (sym (take-all (stops g text .bytes) text n))
-    ∙ ap accepting (sym (stops g text .reached))
-    ∙ w .1
 
 pub record WholeReading (g : Grammar) (text : List ℕ) : Type 0 where
   pub reading : Reading
@@ -71,19 +89,21 @@ pub record WholeReading (g : Grammar) (text : List ℕ) : Type 0 where
   pub shape : Shape g reading
   pub counted : (scanned g text) .tally ≡ tallyOf reading
 
+-- A list that is as long as its front is its front.
+front-whole : (l a b : List ℕ) → l ≡ a ++ b → length l ≡ length a → l ≡ a
+front-whole l a [] e n = e ∙ append-nil a
+front-whole l a (c ∷ b) e n = absurd (omega (arith, length-append a (c ∷ b), ap length e))
+
+-- A whole scan has read the text, and it is one message.
 pub whole-reading : (g : Grammar) (text : List ℕ) → isWhole (scanned g text) (length text) ≡ true → WholeReading g text
 whole-reading g text e =
-    let h : accepting ((run g (start g) text) .phase) ≡ true = whole-accepted g text e in
-    let p : messages.Parsed g text = accepted-parses g text h in
+    let w : (eqb ((scanned g text) .length) (length text) ≡ true) × (accepting ((scanned g text) .phase) ≡ true) = whole-tests _ _ e in
+    let m : MessageRead g text = message-read g text (w .1) in
     record {
-      reading = p .reading;
-      joined = p .joined;
-      shape = p .shape;
-      counted =
-          ap (λ s. s .tally) (live-scan g (start g) 0 noTally text (accepting-live ((run g (start g) text) .phase) h))
-          ∙ ap (λ ps. tallyList ps text noTally) (p .parts)
-          ∙ ap (λ l. tallyList (partsOf (p .reading)) l noTally) (p .joined)
-          ∙ tally-reading (p .reading);
+      reading = m .reading;
+      joined = front-whole text (textOf (m .reading)) (m .rest) (m .joined) (sym (eqb-true ((scanned g text) .length) (length text) (w .0)) ∙ m .ends);
+      shape = m .shape;
+      counted = m .counted;
     }
 
 -- The scan of each text of the grammar is whole.
@@ -120,7 +140,7 @@ reached-phase g text =
 not-dead : (g : Grammar) (text : List ℕ) → (run g (start g) (stopStart g text)) .phase ≢ phase.Dead
 not-dead g text k = live-not-dead ((scanned g text) .phase) (stops g text .lives) (reached-phase g text ∙ k)
 
-pub has-opening : (g : Grammar) (text : List ℕ) → 2 ≤ rank (partOf ((scanned g text) .phase)) → HasOpening g (stopStart g text)
+has-opening : (g : Grammar) (text : List ℕ) → 2 ≤ rank (partOf ((scanned g text) .phase)) → HasOpening g (stopStart g text)
 has-opening g text h = go (progress g (stopStart g text)) (rw (reached-phase g text) at h)
   where
     go : Progress g (stopStart g text) → 2 ≤ rank (partOf ((run g (start g) (stopStart g text)) .phase)) → HasOpening g (stopStart g text)
@@ -130,7 +150,7 @@ has-opening g text h = go (progress g (stopStart g text)) (rw (reached-phase g t
     go (messages.in-closing o c k) h = o
     go (messages.behind-closing o c k) h = o
 
-pub has-closing : (g : Grammar) (text : List ℕ) → 3 ≤ rank (partOf ((scanned g text) .phase)) → HasClosing g (stopStart g text)
+has-closing : (g : Grammar) (text : List ℕ) → 3 ≤ rank (partOf ((scanned g text) .phase)) → HasClosing g (stopStart g text)
 has-closing g text h = go (progress g (stopStart g text)) (rw (reached-phase g text) at h)
   where
     go : Progress g (stopStart g text) → 3 ≤ rank (partOf ((run g (start g) (stopStart g text)) .phase)) → HasClosing g (stopStart g text)
@@ -140,8 +160,12 @@ has-closing g text h = go (progress g (stopStart g text)) (rw (reached-phase g t
     go (messages.in-closing o c k) h = c
     go (messages.behind-closing o c k) h = c
 
-pub no-opening : (g : Grammar) (text : List ℕ) → rank (partOf ((scanned g text) .phase)) ≤ 1 → ¬ HasOpening g (stopStart g text)
+no-opening : (g : Grammar) (text : List ℕ) → rank (partOf ((scanned g text) .phase)) ≤ 1 → ¬ HasOpening g (stopStart g text)
 no-opening g text h o = omega (arith, rw (reached-phase g text) at h, opening-rank g (stopStart g text) o)
 
-pub no-closing : (g : Grammar) (text : List ℕ) → rank (partOf ((scanned g text) .phase)) ≤ 2 → ¬ HasClosing g (stopStart g text)
+no-closing : (g : Grammar) (text : List ℕ) → rank (partOf ((scanned g text) .phase)) ≤ 2 → ¬ HasClosing g (stopStart g text)
 no-closing g text h o = omega (arith, rw (reached-phase g text) at h, closing-rank g (stopStart g text) o)
+
+pub scan-tells : (g : Grammar) (text : List ℕ) → Tells g (stopStart g text) (partOf ((scanned g text) .phase))
+scan-tells g text =
+    record { has-opening = has-opening g text; has-closing = has-closing g text; no-opening = no-opening g text; no-closing = no-closing g text }

@@ -53,44 +53,59 @@ pub record Broken (text : List ℕ) (number : ℕ) (g : Grammar) (n : ℕ) : Typ
   pub none : ¬ Parse g text
   pub longest : LongestStart (Parse g) text n
 
+-- Checks 6 to 9 pass.
+pub record Sound (g : Grammar) (r : Reading) : Type 0 where
+  pub shortLabel : length (r .openingLabel) ≤ labelLimit
+  pub consistent : Consistent g r
+
 -- Checks 1 to 9 pass.
 pub record Passed (text : List ℕ) (number : ℕ) (g : Grammar) (r : Reading) : Type 0 where
   pub parsed : Parsed text number g r
-  pub shortLabel : length (r .openingLabel) ≤ labelLimit
-  pub consistent : Consistent g r
+  pub sound : Sound g r
 
 -- The list has no alphabet character.
 abbrev pub NoCharacter : List ℕ → Type 0
 NoCharacter l = All (λ c. ¬ AlphabetChar c) l
 
--- The rows 1 to 9.
-pub data Refuses (text : List ℕ) (number : ℕ) : Refusal → Type 0 where
+-- The rows 1 and 2.
+pub data NotAdmitted (text : List ℕ) (number : ℕ) : Refusal → Type 0 where
   -- 1: grammar number not 1, 2 or 3
-  unknownGrammar : grammarOf number ≡ Unknown → Refuses text number UnknownGrammar
+  unknownGrammar : grammarOf number ≡ Unknown → NotAdmitted text number UnknownGrammar
   -- 2: text over 65,536 bytes
-  textTooLong : (g : Grammar) → grammarOf number ≡ Known g → textLimit < length text → Refuses text number TextTooLong
+  textTooLong : (g : Grammar) → grammarOf number ≡ Known g → textLimit < length text → NotAdmitted text number TextTooLong
+
+-- The rows 3 to 5, of a message that was begun: its longest start, and the place where that ends.
+pub data GrammarFails (g : Grammar) (start : List ℕ) (place : ℕ) : Refusal → Type 0 where
   -- 3: that start lacks the whole opening
-  badOpening : (g : Grammar) (n : ℕ) → Broken text number g n → ¬ HasOpening g (take n text) → Refuses text number (BadOpening (offset n))
+  badOpening : ¬ HasOpening g start → GrammarFails g start place (BadOpening (offset place))
   -- 4: between
-  badBody : (g : Grammar) (n : ℕ) → Broken text number g n → HasOpening g (take n text) → ¬ HasClosing g (take n text)
-      → Refuses text number (BadBody (offset n))
+  badBody : HasOpening g start → ¬ HasClosing g start → GrammarFails g start place (BadBody (offset place))
   -- 5: that start has at least the first hyphen of the closing
-  badClosing : (g : Grammar) (n : ℕ) → Broken text number g n → HasClosing g (take n text) → Refuses text number (BadClosing (offset n))
+  badClosing : HasClosing g start → GrammarFails g start place (BadClosing (offset place))
+
+-- The rows 6 to 9, of a message that starts at an offset of the text.
+pub data MessageFails (g : Grammar) (from : ℕ) (r : Reading) : Refusal → Type 0 where
   -- 6: opening label over 64 bytes; its first byte
-  labelTooLong : (g : Grammar) (r : Reading) → Parsed text number g r → labelLimit < length (r .openingLabel)
-      → Refuses text number (LabelTooLong (offset (labelStart r)))
+  labelTooLong : labelLimit < length (r .openingLabel) → MessageFails g from r (LabelTooLong (offset (from + labelStart r)))
   -- 7: labels differ; where the closing label starts
-  labelsDiffer : (g : Grammar) (r : Reading) → Parsed text number g r → length (r .openingLabel) ≤ labelLimit
-      → r .openingLabel ≢ r .closingLabel → Refuses text number (LabelsDiffer (offset (closingLabelStart r)))
+  labelsDiffer : length (r .openingLabel) ≤ labelLimit → r .openingLabel ≢ r .closingLabel
+      → MessageFails g from r (LabelsDiffer (offset (from + closingLabelStart r)))
   -- 8: n and p do not fit; first hyphen of the closing
-  badCounts : (g : Grammar) (r : Reading) → Parsed text number g r → length (r .openingLabel) ≤ labelLimit
-      → r .openingLabel ≡ r .closingLabel → ¬ CountsFit (length (characters (r .body))) (padCount (r .body))
-      → Refuses text number (BadCounts (offset (closingStart r)))
+  badCounts : length (r .openingLabel) ≤ labelLimit → r .openingLabel ≡ r .closingLabel
+      → ¬ CountsFit (length (characters (r .body))) (padCount (r .body)) → MessageFails g from r (BadCounts (offset (from + closingStart r)))
   -- 9: spare bits not zero, grammar 3; last alphabet character
-  spareBits : (g : Grammar) (r : Reading) → Parsed text number g r → length (r .openingLabel) ≤ labelLimit
-      → r .openingLabel ≡ r .closingLabel → CountsFit (length (characters (r .body))) (padCount (r .body))
-      → ¬ message.SpareBits g (characters (r .body)) → (a : List ℕ) (c : ℕ) (b : List ℕ) → r .body ≡ a ++ (c ∷ b) → AlphabetChar c
-      → NoCharacter b → Refuses text number (SpareBits (offset (bodyStart r + length a)))
+  spareBits : length (r .openingLabel) ≤ labelLimit → r .openingLabel ≡ r .closingLabel
+      → CountsFit (length (characters (r .body))) (padCount (r .body)) → ¬ message.SpareBits g (characters (r .body))
+      → (a : List ℕ) (c : ℕ) (b : List ℕ) → r .body ≡ a ++ (c ∷ b) → AlphabetChar c → NoCharacter b
+      → MessageFails g from r (SpareBits (offset (from + bodyStart r + length a)))
+
+-- The rows 1 to 9 of a text that is to be one message.
+pub data Refuses (text : List ℕ) (number : ℕ) : Refusal → Type 0 where
+  notAdmitted : {refusal : Refusal} → NotAdmitted text number refusal → Refuses text number refusal
+  grammarFails : {refusal : Refusal} (g : Grammar) (n : ℕ) → Broken text number g n → GrammarFails g (take n text) n refusal
+      → Refuses text number refusal
+  messageFails : {refusal : Refusal} (g : Grammar) (r : Reading) → Parsed text number g r → MessageFails g 0 r refusal
+      → Refuses text number refusal
 
 -- What is reported of a reading: the data's length, the label's offset and length.
 abbrev pub foundOf : Reading → Found
