@@ -7,6 +7,15 @@ pub all-append : {A : Type 0} (P : A → Type 0) (a b : List A) → All P a → 
 all-append P [] b ha hb = hb
 all-append P (x ∷ a) b ha hb = (ha .0, all-append P a b (ha .1) hb)
 
+-- The two parts of such a list.
+pub all-front : {A : Type 0} (P : A → Type 0) (a b : List A) → All P (a ++ b) → All P a
+all-front P [] b h = tt
+all-front P (x ∷ a) b h = (h .0, all-front P a b (h .1))
+
+pub all-back : {A : Type 0} (P : A → Type 0) (a b : List A) → All P (a ++ b) → All P b
+all-back P [] b h = h
+all-back P (x ∷ a) b h = all-back P a b (h .1)
+
 pub all-imp : {A : Type 0} (P Q : A → Type 0) → ((x : A) → P x → Q x) → (a : List A) → All P a → All Q a
 all-imp P Q f [] h = tt
 all-imp P Q f (x ∷ a) h = (f x (h .0), all-imp P Q f a (h .1))

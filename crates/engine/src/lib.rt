@@ -2,7 +2,7 @@
 ghost use mathlib.Core.Path.{_≡_};
 ghost use lib.ListN.{length, getD};
 ghost use Rattle.machine.proofs.ByteKinds.{kindOf, otherKind};
-ghost use Rattle.machine.proofs.Machine.{wordOf, wordStep, labelRow, labelTarget, lineEnd, lineChar, linePad, row, laxRow, standardRow, strictRow, target, behind, labelled, beforeStep, next, step, start, accepting, strictAccepting, isAfter, dead, bytePart, boundaryPart, laxPart, standardPart, strictPart, partOf};
+ghost use Rattle.machine.proofs.Machine.{wordOf, wordStep, labelRow, labelTarget, lineEnd, lineChar, linePad, row, laxRow, standardRow, strictRow, target, behind, labelled, beforeStep, next, step, start, later, accepting, strictAccepting, isAfter, dead, bytePart, boundaryPart, laxPart, standardPart, strictPart, partOf};
 use base64::PAD;
 use base64::Value;
 use base64::value_of;
@@ -432,6 +432,16 @@ pub fn start(grammar: Grammar) -> State
             phase: Phase::Word(Boundary::Opening, 0),
             cr: false,
         },
+    }
+}
+
+// Where a later message of a bundle starts.
+pub fn later() -> State
+    ensures { λ r. ⌜ r ≡ later ⌝ }
+{
+    State {
+        phase: Phase::Word(Boundary::Opening, 0),
+        cr: false,
     }
 }
 

@@ -4,9 +4,9 @@ use mathlib.Core.Path.{_≡_, refl, sym, _∙_, ap}
 use mathlib.Core.List.{List, [], _∷_, _++_, map, nil≢cons}
 use Prim.Native.Nat.{ℕ}
 use Rattle.base64.specs.Lists.{All}
-use Rattle.base64.proofs.Lists.{all-imp}
+use Rattle.base64.proofs.Lists.{all-front, all-back, all-imp}
 use Rattle.grammar.specs.Marks.{hyphen, White}
-use Rattle.grammar.specs.Message.{Reading, textOf, Consistent}
+use Rattle.grammar.specs.Message.{Reading, textOf, Shape, Consistent}
 use Rattle.grammar.specs.Bundle.{joinedText, Later, Shapes, Item, itemOf, tableOf, Bundle}
 use Rattle.grammar.specs.declared.Grammar.{Grammar}
 use Rattle.grammar.specs.declared.Grammar.the-variants.{Lax, Standard, Strict}
@@ -57,6 +57,15 @@ text-some r x e = go (r .before) _ (e ∙ text-then r x)
 pub later-shapes : (g : Grammar) (rs : List Reading) → All (Later g) rs → Shapes g rs
 later-shapes g [] h = tt
 later-shapes g (r ∷ rs) h = (h .0 .shape, h .1)
+
+-- The messages at the front of a bundle, and the one behind them.
+pub front-shapes : (g : Grammar) (rs ss : List Reading) → Shapes g (rs ++ ss) → Shapes g rs
+front-shapes g [] ss m = tt
+front-shapes g (r ∷ rs) ss m = (m .0, all-front (Later g) rs ss (m .1))
+
+pub next-shape : (g : Grammar) (rs : List Reading) (r : Reading) (ss : List Reading) → Shapes g (rs ++ (r ∷ ss)) → Shape g r
+next-shape g [] r ss m = m .0
+next-shape g (s ∷ rs) r ss m = all-back (Later g) rs (r ∷ ss) (m .1) .0 .shape
 
 pub readings-unique : (g h : Grammar) (rs ss : List Reading) → Shapes g rs → Shapes h ss → joinedText rs ≡ joinedText ss → rs ≡ ss
 readings-unique g h [] [] m n e = refl

@@ -1,7 +1,7 @@
 -- The machine over a bundle: where a message ends another may start, and how far a text begins a bundle. Assumes nothing.
 use mathlib.Core.Path.{_≡_, refl, sym, ap, _∙_, subst}
 use mathlib.Core.Logic.{_⊎_, inl, inr, _≢_}
-use mathlib.Core.Bool.{Bool, true, false, true≢false}
+use mathlib.Core.Bool.{Bool, true, false, cond, true≢false}
 use mathlib.Core.List.{List, [], _∷_, _++_, append-assoc, append-nil, head-eq-of-cons-eq, tail-eq-of-cons-eq}
 use Prim.Native.Nat.{ℕ, suc, _+_, _-_, _≤_, _<_}
 use lib.Dec.{eqb}
@@ -11,7 +11,7 @@ use native.Mathlib.Omega.{arith}
 use borrow.Author.Tests.{eqb-true, eqb-false, ne-eqb}
 use Rattle.base64.specs.Lists.{All}
 use Rattle.base64.proofs.Lists.{all-append}
-use Rattle.grammar.specs.Marks.{White, hyphen, opening, closing}
+use Rattle.grammar.specs.Marks.{LF, CR, White, hyphen, opening, closing}
 use Rattle.grammar.specs.Message.{Reading, textOf, Shape}
 use Rattle.grammar.specs.Bundle.{joinedText, Later, Shapes}
 use Rattle.grammar.specs.Starts.{BundleParse, Begins, LongestStart}
@@ -20,7 +20,9 @@ use Rattle.grammar.specs.declared.Grammar.the-variants as grammar
 use Rattle.grammar.proofs.Runs.{run-unique}
 use Rattle.grammar.proofs.Message.{shape-lax, no-white-hyphen}
 use Rattle.grammar.proofs.Bundle.{text-some, later-shapes}
-use Rattle.machine.proofs.Machine.{wordStep, next, step, run, start, accepting, later}
+use Rattle.machine.proofs.ByteKinds.{kindOf}
+use Rattle.machine.proofs.Machine.{state, wordStep, laxRow, standardRow, strictRow, next, step, run, start, accepting, later}
+use Rattle.machine.proofs.Parts.{target-all}
 use Rattle.machine.specs.declared.LaxPhase.the-variants as lax
 use Rattle.machine.specs.declared.StandardPhase.the-variants as standard
 use Rattle.machine.specs.declared.StrictPhase.the-variants as strict
@@ -82,36 +84,86 @@ later-same g r h = rw (h .noneBefore) (later-run g (drop 1 (opening (r .openingL
 
 -- ---- The end of a message
 
--- Behind an accepted text a hyphen kills.
+-- The phases behind a message.
+data Behind : Phase → Type 0 where
+  lax-closed : Behind (Lax lax.Closed)
+  standard-closed : Behind (Standard standard.Closed)
+  standard-ended : Behind (Standard standard.Ended)
+  strict-ended : Behind (Strict strict.Ended)
+
+accepting-behind : (p : Phase) → accepting p ≡ true → Behind p
+accepting-behind Before e = absurd (true≢false (sym e))
+accepting-behind (Word b n) e = absurd (true≢false (sym e))
+accepting-behind (Label b p) e = absurd (true≢false (sym e))
+accepting-behind (Lax lax.Data) e = absurd (true≢false (sym e))
+accepting-behind (Lax lax.OnePad) e = absurd (true≢false (sym e))
+accepting-behind (Lax lax.TwoPads) e = absurd (true≢false (sym e))
+accepting-behind (Lax lax.Closed) e = lax-closed
+accepting-behind (Standard standard.Opened) e = absurd (true≢false (sym e))
+accepting-behind (Standard standard.Leading) e = absurd (true≢false (sym e))
+accepting-behind (Standard standard.BlankLine) e = absurd (true≢false (sym e))
+accepting-behind (Standard standard.Data) e = absurd (true≢false (sym e))
+accepting-behind (Standard standard.Trailing) e = absurd (true≢false (sym e))
+accepting-behind (Standard standard.Line) e = absurd (true≢false (sym e))
+accepting-behind (Standard standard.OnePad) e = absurd (true≢false (sym e))
+accepting-behind (Standard standard.Ending) e = absurd (true≢false (sym e))
+accepting-behind (Standard standard.Final) e = absurd (true≢false (sym e))
+accepting-behind (Standard standard.Closed) e = standard-closed
+accepting-behind (Standard standard.Ended) e = standard-ended
+accepting-behind (Strict strict.Opened) e = absurd (true≢false (sym e))
+accepting-behind (Strict strict.First) e = absurd (true≢false (sym e))
+accepting-behind (Strict strict.Line) e = absurd (true≢false (sym e))
+accepting-behind (Strict (strict.Data n)) e = absurd (true≢false (sym e))
+accepting-behind (Strict strict.OnePad) e = absurd (true≢false (sym e))
+accepting-behind (Strict strict.Padded) e = absurd (true≢false (sym e))
+accepting-behind (Strict strict.Final) e = absurd (true≢false (sym e))
+accepting-behind (Strict strict.Closed) e = absurd (true≢false (sym e))
+accepting-behind (Strict strict.Ended) e = strict-ended
+accepting-behind Dead e = absurd (true≢false (sym e))
+
+-- There a hyphen kills,
 pub hyphen-kills : (g : Grammar) (p : Phase) → accepting p ≡ true → next g p hyphen ≡ Dead
-hyphen-kills g Before e = absurd (true≢false (sym e))
-hyphen-kills g (Word b n) e = absurd (true≢false (sym e))
-hyphen-kills g (Label b p) e = absurd (true≢false (sym e))
-hyphen-kills g (Lax lax.Data) e = absurd (true≢false (sym e))
-hyphen-kills g (Lax lax.OnePad) e = absurd (true≢false (sym e))
-hyphen-kills g (Lax lax.TwoPads) e = absurd (true≢false (sym e))
-hyphen-kills g (Lax lax.Closed) e = refl
-hyphen-kills g (Standard standard.Opened) e = absurd (true≢false (sym e))
-hyphen-kills g (Standard standard.Leading) e = absurd (true≢false (sym e))
-hyphen-kills g (Standard standard.BlankLine) e = absurd (true≢false (sym e))
-hyphen-kills g (Standard standard.Data) e = absurd (true≢false (sym e))
-hyphen-kills g (Standard standard.Trailing) e = absurd (true≢false (sym e))
-hyphen-kills g (Standard standard.Line) e = absurd (true≢false (sym e))
-hyphen-kills g (Standard standard.OnePad) e = absurd (true≢false (sym e))
-hyphen-kills g (Standard standard.Ending) e = absurd (true≢false (sym e))
-hyphen-kills g (Standard standard.Final) e = absurd (true≢false (sym e))
-hyphen-kills g (Standard standard.Closed) e = refl
-hyphen-kills g (Standard standard.Ended) e = refl
-hyphen-kills g (Strict strict.Opened) e = absurd (true≢false (sym e))
-hyphen-kills g (Strict strict.First) e = absurd (true≢false (sym e))
-hyphen-kills g (Strict strict.Line) e = absurd (true≢false (sym e))
-hyphen-kills g (Strict (strict.Data n)) e = absurd (true≢false (sym e))
-hyphen-kills g (Strict strict.OnePad) e = absurd (true≢false (sym e))
-hyphen-kills g (Strict strict.Padded) e = absurd (true≢false (sym e))
-hyphen-kills g (Strict strict.Final) e = absurd (true≢false (sym e))
-hyphen-kills g (Strict strict.Closed) e = absurd (true≢false (sym e))
-hyphen-kills g (Strict strict.Ended) e = refl
-hyphen-kills g Dead e = refl
+hyphen-kills g p a = go p (accepting-behind p a)
+  where
+    go : (p : Phase) → Behind p → next g p hyphen ≡ Dead
+    go p lax-closed = refl
+    go p standard-closed = refl
+    go p standard-ended = refl
+    go p strict-ended = refl
+
+-- and what does not kill leads to such a phase again.
+abbrev BehindOrDead : Phase → Type 0
+BehindOrDead p = (p ≡ Dead) ⊎ (accepting p ≡ true)
+
+next-behind : (g : Grammar) (p : Phase) (c : ℕ) → accepting p ≡ true → BehindOrDead (next g p c)
+next-behind g p c a = go p (accepting-behind p a)
+  where
+    go : (p : Phase) → Behind p → BehindOrDead (next g p c)
+    go p lax-closed = target-all BehindOrDead (laxRow lax.Closed) (inl refl) (inr refl, inr refl, inr refl, inl refl, inl refl, inl refl) (kindOf c)
+    go p standard-closed =
+        target-all BehindOrDead (standardRow standard.Closed) (inl refl) (inr refl, inl refl, inr refl, inl refl, inl refl, inl refl) (kindOf c)
+    go p standard-ended =
+        target-all BehindOrDead (standardRow standard.Ended) (inl refl) (inl refl, inl refl, inl refl, inl refl, inl refl, inl refl) (kindOf c)
+    go p strict-ended =
+        target-all BehindOrDead (strictRow strict.Ended) (inl refl) (inl refl, inl refl, inl refl, inl refl, inl refl, inl refl) (kindOf c)
+
+step-behind : (g : Grammar) (s : State) (c : ℕ) → accepting (s .phase) ≡ true → BehindOrDead ((step g s c) .phase)
+step-behind g s c a = go (cond (s .cr) (eqb c LF) false)
+  where
+    go : (b : Bool) → BehindOrDead ((cond b (state (s .phase) false) (state (next g (s .phase) c) (eqb c CR))) .phase)
+    go true = inr a
+    go false = next-behind g (s .phase) c a
+
+-- So where the machine lives behind a message, it accepts.
+pub behind-accepts : (g : Grammar) (s : State) (l : List ℕ) → accepting (s .phase) ≡ true → (run g s l) .phase ≢ Dead
+    → accepting ((run g s l) .phase) ≡ true
+behind-accepts g s [] a n = a
+behind-accepts g s (c ∷ l) a n = go (step-behind g s c a) (λ h. behind-accepts g (step g s c) l h n)
+  where
+    go : BehindOrDead ((step g s c) .phase) → (accepting ((step g s c) .phase) ≡ true → accepting ((run g (step g s c) l) .phase) ≡ true)
+        → accepting ((run g (step g s c) l) .phase) ≡ true
+    go (inl e) f = absurd (n (dead-run g (step g s c) l e))
+    go (inr e) f = f e
 
 -- The list is empty, or its first byte kills.
 abbrev pub Stops : Grammar → State → List ℕ → Type 0
@@ -136,7 +188,7 @@ accepting-lives p h e = true≢false (sym h ∙ ap accepting e)
 -- ---- The messages of a bundle
 
 -- A message's text is accepted,
-shape-accepted : (g : Grammar) (r : Reading) → Shape g r → accepting ((run g (start g) (textOf r)) .phase) ≡ true
+pub shape-accepted : (g : Grammar) (r : Reading) → Shape g r → accepting ((run g (start g) (textOf r)) .phase) ≡ true
 shape-accepted g r s = parse-accepted g (textOf r) record { reading = r; joined = refl; shape = s }
 
 -- and behind an accepted text a later message kills.
@@ -155,7 +207,7 @@ Unextended g (r ∷ []) x = Stops g (run g (start g) (textOf r)) x
 Unextended g (r ∷ (s ∷ ss)) x = Unextended g (s ∷ ss) x
 
 -- So the first message ends where it does, whatever follows.
-first-stops : (g : Grammar) (r : Reading) (rs : List Reading) (x : List ℕ) → Shapes g (r ∷ rs) → Unextended g (r ∷ rs) x
+pub first-stops : (g : Grammar) (r : Reading) (rs : List Reading) (x : List ℕ) → Shapes g (r ∷ rs) → Unextended g (r ∷ rs) x
     → Stops g (run g (start g) (textOf r)) (joinedText rs ++ x)
 first-stops g r [] x m h = h
 first-stops g r (s ∷ ss) x m h =
@@ -187,10 +239,13 @@ abbrev pub startBehind : Grammar → List Reading → State
 startBehind g [] = start g
 startBehind g (r ∷ rs) = later
 
--- The text with one message more.
+-- The text of messages and more messages; the text with one message more.
+pub joined-append : (rs ss : List Reading) → joinedText (rs ++ ss) ≡ joinedText rs ++ joinedText ss
+joined-append [] ss = refl
+joined-append (r ∷ rs) ss = rw (joined-append rs ss) (sym (append-assoc (textOf r) (joinedText rs) (joinedText ss)))
+
 pub joined-more : (rs : List Reading) (r : Reading) → joinedText (rs ++ (r ∷ [])) ≡ joinedText rs ++ textOf r
-joined-more [] r = append-nil (textOf r)
-joined-more (s ∷ ss) r = rw (joined-more ss r) (sym (append-assoc (textOf s) (joinedText ss) (textOf r)))
+joined-more rs r = joined-append rs (r ∷ []) ∙ ap (λ l. joinedText rs ++ l) (append-nil (textOf r))
 
 -- What the machine accepts there is one message more,
 pub accepted-more : (g : Grammar) (rs : List Reading) (l : List ℕ) → Shapes g rs → accepting ((run g (startBehind g rs) l) .phase) ≡ true

@@ -232,7 +232,7 @@ pub fn scan_text(text: &[u8], from: TextOffset, grammar: Grammar, first: State) 
 }
 
 // Where the parts of a message are that starts at an offset.
-fn lay_out(from: TextOffset, tally: Tally) -> Layout
+pub fn lay_out(from: TextOffset, tally: Tally) -> Layout
     requires { ⌜ Fits (from .0) tally ⌝ }
     ensures { λ r. ⌜ r ≡ layoutOf (from .0) tally ⌝ }
 {
@@ -257,7 +257,7 @@ fn lay_out(from: TextOffset, tally: Tally) -> Layout
 }
 
 // The refusal where the grammar fails: the part that was being read decides.
-fn grammar_refusal(part: Part, place: TextOffset) -> Refusal
+pub fn grammar_refusal(part: Part, place: TextOffset) -> Refusal
     ensures { λ r. ⌜ r ≡ grammarRefusal part (place .0) ⌝ }
 {
     match part {
@@ -320,7 +320,7 @@ fn spare_clear(text: &[u8], grammar: Grammar, layout: Layout, tally: Tally) -> b
 }
 
 // The checks 6 to 9 of a message of the grammar.
-fn judge_parts(text: &[u8], grammar: Grammar, layout: Layout, tally: Tally) -> Judgement
+pub fn judge_parts(text: &[u8], grammar: Grammar, layout: Layout, tally: Tally) -> Judgement
     requires { ⌜ Lies (length (now text)) layout × (lastAt layout tally < length (now text)) ⌝ }
     ensures { λ r. ⌜ r ≡ judgedParts grammar (now (text .entry)) layout tally ⌝ }
 {

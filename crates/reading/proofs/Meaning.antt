@@ -11,7 +11,7 @@ use native.Mathlib.Nat.{zero-add}
 use borrow.Author.Tests.{ltb-true, ltb-false, lt-ltb, le-ltb}
 use Rattle.base64.specs.Groups.{decode}
 use Rattle.base64.specs.declared.ByteCount.{ByteCount}
-use Rattle.grammar.specs.Marks.{begin, end, hyphens, opening, closing}
+use Rattle.grammar.specs.Marks.{opening}
 use Rattle.grammar.specs.Grammars.{grammarOf}
 use Rattle.grammar.specs.Message.{Reading, textOf, characters, dataOf}
 use Rattle.grammar.specs.Starts.{LongestStart}
@@ -34,9 +34,8 @@ use Rattle.reading.specs.declared.Layout.{Layout}
 use Rattle.reading.specs.declared.ReadAnswer.{ReadAnswer}
 use Rattle.reading.specs.declared.ReadAnswer.the-variants as answer
 use Rattle.reading.specs.declared.Refusal.{Refusal}
-use Rattle.reading.specs.declared.Scan.{Scan}
-use Rattle.reading.proofs.Tallies.{last-within, tallyOf}
-use Rattle.reading.proofs.Places.{readingLayout, label-part, body-part, text-length, opening-length, closing-length}
+use Rattle.reading.proofs.Tallies.{tallyOf}
+use Rattle.reading.proofs.Places.{TallyFits, reading-fits, readingLayout, label-part, body-part, text-length, opening-length, closing-length}
 use Rattle.reading.proofs.Judgements as judgements
 use Rattle.reading.proofs.Judgements.{judgedReading, parts-judged, Verdict, reading-judged, fails-judged, sound-judged, Tells, part-fails, fails-part}
 use Rattle.reading.proofs.Whole.{scanned, WholeReading, whole-reading, parse-whole, scan-longest, scan-tells}
@@ -237,23 +236,7 @@ sound-fits text number l size e = go l size (subst (Judged text number) e (judge
         (omega arith, omega arith, ap length (sym (data-in text r (p .parsed .joined))))
 
 -- What the code has to know of a scan that has read a whole text of the grammar.
-pub record WholeFits (text : List ℕ) (s : Scan) : Type 0 where
-  pub opening : length begin + length hyphens ≤ s .tally .opening
-  pub closing : length end + length hyphens ≤ s .tally .closing
-  pub sum : s .tally .before + s .tally .opening + s .tally .body + s .tally .closing ≤ length text
-  pub last : s .tally .last ≤ s .tally .body
-
-pub whole-fits : (g : Grammar) (text : List ℕ) → isWhole (scanned g text) (length text) ≡ true → WholeFits text (scanned g text)
+pub whole-fits : (g : Grammar) (text : List ℕ) → isWhole (scanned g text) (length text) ≡ true → TallyFits (length text) ((scanned g text) .tally)
 whole-fits g text e =
     let q : WholeReading g text = whole-reading g text e in
-    let r : Reading = q .reading in
-    let n : length text ≡ length (textOf r) = ap length (q .joined) in
-    let o = opening-length (r .openingLabel) in
-    let c = closing-length (r .closingLabel) in
-    let t : (scanned g text) .tally ≡ tallyOf r = q .counted in
-    record {
-      opening = rw t (omega arith);
-      closing = rw t (omega arith);
-      sum = rw t (omega (arith, text-length r));
-      last = rw t (last-within (r .body));
-    }
+    rw (q .counted, ap length (q .joined)) (reading-fits (q .reading))

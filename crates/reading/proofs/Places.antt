@@ -1,7 +1,7 @@
 -- The parts of a reading are where its layout says. Assumes nothing.
 use mathlib.Core.Path.{_≡_, refl, ap, _∙_}
 use mathlib.Core.List.{List, _++_, append-assoc}
-use Prim.Native.Nat.{ℕ, _+_}
+use Prim.Native.Nat.{ℕ, _+_, _≤_}
 use lib.ListN.{length, take, length-append}
 use lib.Seq.{take-at, drop-at}
 use native.Mathlib.Omega.{arith}
@@ -12,6 +12,8 @@ use Rattle.reading.specs.Meaning.{labelStart, bodyStart, closingStart, c
 use Rattle.reading.specs.Scan.{tally}
 use Rattle.reading.specs.Read.{spanned, layoutOf}
 use Rattle.reading.specs.declared.Layout.{Layout}
+use Rattle.reading.specs.declared.Tally.{Tally}
+use Rattle.reading.proofs.Tallies.{tallyOf, last-within, characters-short}
 
 -- Where the parts of a reading are, whose text starts at an offset.
 abbrev pub readingLayout : ℕ → Reading → Layout
@@ -101,3 +103,23 @@ closing-label-part front r back =
 pub text-length : (r : Reading)
     → length (textOf r) ≡ length (r .before) + length (opening (r .openingLabel)) + length (r .body) + length (closing (r .closingLabel)) + length (r .after)
 text-length r = simp length-append (omega arith)
+
+-- A tally within so many bytes: what the code has to know of a message that it has scanned.
+pub record TallyFits (n : ℕ) (t : Tally) : Type 0 where
+  pub opening : length begin + length hyphens ≤ t .opening
+  pub closing : length end + length hyphens ≤ t .closing
+  pub sum : t .before + t .opening + t .body + t .closing ≤ n
+  pub characters : t .characters ≤ t .body
+  pub last : t .last ≤ t .body
+
+pub reading-fits : (r : Reading) → TallyFits (length (textOf r)) (tallyOf r)
+reading-fits r =
+    let o = opening-length (r .openingLabel) in
+    let c = closing-length (r .closingLabel) in
+    record {
+      opening = omega arith;
+      closing = omega arith;
+      sum = omega (arith, text-length r);
+      characters = characters-short (r .body);
+      last = last-within (r .body);
+    }

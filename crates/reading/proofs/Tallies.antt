@@ -142,6 +142,16 @@ last-within l = go (last-or-none l)
     go (inl s) = omega (arith, s .index, simp length-append at (ap length (s .joined)))
     go (inr n) = omega (arith, none-last 0 0 l n)
 
+-- A list has no more alphabet characters than bytes.
+pub characters-short : (l : List ℕ) → length (characters l) ≤ length l
+unfolding characters
+characters-short [] = omega arith
+characters-short (c ∷ l) = go (ltb (valueOf c) radix) (characters-short l)
+  where
+    go : (t : Bool) → length (characters l) ≤ length l → length (cond t (c ∷ characters l) (characters l)) ≤ suc (length l)
+    go true h = omega arith
+    go false h = omega arith
+
 -- ---- the tally of a reading
 
 -- The bytes of a list tallied, each in its part.
@@ -247,7 +257,7 @@ tally-reading r = parts-tally (r .before) (opening (r .openingLabel)) (r .body) 
 -- ---- where a scan stops
 
 -- Only one phase is dead.
-dead-phase : (p : Phase) → dead p ≡ true → p ≡ Dead
+pub dead-phase : (p : Phase) → dead p ≡ true → p ≡ Dead
 dead-phase Before e = absurd (false≢true e)
 dead-phase (Word b n) e = absurd (false≢true e)
 dead-phase (Label b l) e = absurd (false≢true e)

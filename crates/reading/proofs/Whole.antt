@@ -31,7 +31,7 @@ use Rattle.reading.proofs.Tallies.{tallyList, tallyOf, tally-reading, l
 abbrev pub scanned : Grammar → List ℕ → Scan
 scanned g text = scanOf g (start g) 0 noTally text
 
-start-live : (g : Grammar) → dead ((start g) .phase) ≡ false
+pub start-live : (g : Grammar) → dead ((start g) .phase) ≡ false
 start-live grammar.Lax = refl
 start-live grammar.Standard = refl
 start-live grammar.Strict = refl
@@ -45,7 +45,7 @@ accepting-live (phase.Standard q) e = refl
 accepting-live (phase.Strict q) e = refl
 accepting-live phase.Dead e = absurd (true≢false (sym e))
 
-live-not-dead : (p : Phase) → dead p ≡ false → p ≢ phase.Dead
+pub live-not-dead : (p : Phase) → dead p ≡ false → p ≢ phase.Dead
 live-not-dead p e q = true≢false (sym (ap dead q) ∙ e)
 
 pub stops : (g : Grammar) (text : List ℕ) → Stops g (start g) 0 noTally text (scanned g text)
@@ -132,12 +132,12 @@ scan-longest g text =
 abbrev pub stopStart : Grammar → List ℕ → List ℕ
 stopStart g text = take ((scanned g text) .length) text
 
-reached-phase : (g : Grammar) (text : List ℕ) → (scanned g text) .phase ≡ (run g (start g) (stopStart g text)) .phase
+pub reached-phase : (g : Grammar) (text : List ℕ) → (scanned g text) .phase ≡ (run g (start g) (stopStart g text)) .phase
 reached-phase g text =
     let e : stops g text .bytes ≡ (scanned g text) .length = omega (arith, stops g text .counted) in
     stops g text .reached ∙ ap (λ k. (run g (start g) (take k text)) .phase) e
 
-not-dead : (g : Grammar) (text : List ℕ) → (run g (start g) (stopStart g text)) .phase ≢ phase.Dead
+pub not-dead : (g : Grammar) (text : List ℕ) → (run g (start g) (stopStart g text)) .phase ≢ phase.Dead
 not-dead g text k = live-not-dead ((scanned g text) .phase) (stops g text .lives) (reached-phase g text ∙ k)
 
 has-opening : (g : Grammar) (text : List ℕ) → 2 ≤ rank (partOf ((scanned g text) .phase)) → HasOpening g (stopStart g text)

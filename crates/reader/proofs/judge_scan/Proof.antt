@@ -13,12 +13,13 @@ use Rattle.machine.proofs.Machine.{start, accepting}
 use Rattle.reading.specs.Scan.{noTally, scanOf}
 use Rattle.reading.specs.Read.{isWhole}
 use Rattle.reading.specs.declared.Scan.{Scan}
-use Rattle.reading.proofs.Meaning.{WholeFits, whole-fits}
+use Rattle.reading.proofs.Places.{TallyFits}
+use Rattle.reading.proofs.Meaning.{whole-fits}
 use Rattle.reader.proofs.judge_scan.Statement.{statement}
 use Rattle.reader.proofs.judge_scan.Tie as tie
 
 scan-fits : (g : Grammar) (text : List ℕ) (s : Scan) → s ≡ scanOf g (start g) 0 noTally text → s .length ≡ length text → accepting (s .phase) ≡ true
-    → WholeFits text s
+    → TallyFits (length text) (s .tally)
 scan-fits g text s e size accepted =
     let whole : isWhole s (length text) ≡ true = rw (eq-eqb (s .length) (length text) size, accepted) in
     rw e (whole-fits g text (rw e at whole))
@@ -26,7 +27,8 @@ scan-fits g text s e size accepted =
 accepted : (c : tie.Then2) → accepting (c .before .before .before .before .before .before .args .scan .phase) ≡ true
 accepted c = sym (c .before .is-accepting .ensures) ∙ c .if2 .taken
 
-fits : (c : tie.Then2) → WholeFits (c .before .before .before .before .before .before .args .text .now) (c .before .before .before .before .before .before .args .scan)
+fits : (c : tie.Then2)
+    → TallyFits (length (c .before .before .before .before .before .before .args .text .now)) (c .before .before .before .before .before .before .args .scan .tally)
 fits c =
     let start = c .before .before .before .before .before .before in
     scan-fits (start .args .grammar) (start .args .text .now) (start .args .scan) (start .pre) (c .before .before .if1 .taken) (accepted c)

@@ -1,0 +1,5 @@
+-- Indexing a bundle. Assumes nothing.
+pub mod Answers
+pub mod Meaning
+pub mod Index
+pub mod Claims
