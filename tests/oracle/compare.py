@@ -1,10 +1,12 @@
-"""Compares the linked archive with the oracle on random texts: valid, damaged by up to three edits, and soups of marks.
+"""Compares the linked archive with the oracle on random texts and bundles: valid, damaged by up to three edits, and soups
+of marks.
 
     rt staticlib zullifern
     python3 compare.py target/staticlib/libzullifern.a SEED COUNT
 
-The lent output and the report are filled with old bytes first and guarded at both ends.
+The lent output, table and report are filled with old values first; output and table are guarded at both ends.
 """
+import collections
 import ctypes
 import os
 import random
@@ -18,6 +20,7 @@ ALPHABET = b"ABCDEFGHIJKLMNOPQRSTUVWXYZabcdefghijklmnopqrstuvwxyz0123456789+/"
 WHITE = [b" ", b"\t", b"\r", b"\n", b"\x0b", b"\x0c"]
 SOUP = [b"-----BEGIN ", b"-----END ", b"-----", b"A", b"=", b"==", b"\r", b"\n", b"\r\n", b" ", b"\t", b"Zg==", b"-", b"\x0b", b"A-B", b"\xff", b"!"]
 GUARD = 8
+OLD = 0xAAAAAAAA
 
 
 def loaded(archive):
@@ -28,7 +31,7 @@ def loaded(archive):
 
 
 def called(library, text, grammar, room):
-    """What both calls answer: number, report and output of read, number and report of label."""
+    """What read and label answer: number, report and output of read, number and report of label."""
     out = (ctypes.c_uint8 * (room + 2 * GUARD))(*([0xAA] * (room + 2 * GUARD)))
     reports = [(ctypes.c_uint64 * 8)(*([7] * 8)) for _ in range(2)]
     length, number = ctypes.c_size_t(len(text)), ctypes.c_uint32(grammar)
@@ -37,6 +40,18 @@ def called(library, text, grammar, room):
     held = bytes(out)
     assert held[:GUARD] == held[GUARD + room:] == b"\xaa" * GUARD, (text, grammar, room)
     return read, list(reports[0]), held[GUARD:GUARD + room], label, list(reports[1])
+
+
+def indexed(library, text, grammar, room):
+    """What index answers: number, report and table."""
+    table = (ctypes.c_uint32 * (room + 2 * GUARD))(*([OLD] * (room + 2 * GUARD)))
+    report = (ctypes.c_uint64 * 8)(*([7] * 8))
+    length, number = ctypes.c_size_t(len(text)), ctypes.c_uint32(grammar)
+    behind_guard = ctypes.byref(table, GUARD * ctypes.sizeof(ctypes.c_uint32))
+    answer = library.zullifern_index(text, length, number, behind_guard, ctypes.c_size_t(room), report)
+    held = list(table)
+    assert held[:GUARD] == held[GUARD + room:] == [OLD] * GUARD, (text, grammar, room)
+    return answer, list(report), held[GUARD:GUARD + room]
 
 
 class Texts:
@@ -77,8 +92,7 @@ class Texts:
         last = self.random.choice([self.characters(4), self.characters(3) + b"=", self.characters(2) + b"==", self.characters(1) + self.random.choice([b"A==", b"Q==", b"w=="])])
         return body + self.characters(4 * self.random.randint(0, 15)) + last + self.line_end()
 
-    def message(self):
-        grammar = self.random.choice([1, 2, 3])
+    def message(self, grammar):
         opened = self.label()
         closed = opened if self.random.random() < 0.9 else self.label()
         body = [self.lax_body, self.standard_body, self.strict_body][grammar - 1]()
@@ -103,23 +117,58 @@ class Texts:
         return bytes(text)
 
     def text(self):
-        return self.damaged(self.message()) if self.random.random() < 0.85 else self.some(SOUP, range(15))
+        if self.random.random() < 0.85:
+            return self.damaged(self.message(self.random.choice([1, 2, 3])))
+        return self.some(SOUP, range(15))
+
+    def mostly_sound(self, grammar):
+        """A message of the grammar; one that is refused is thrown away up to nine times."""
+        for _ in range(self.random.choice([1, 10, 10, 10, 10])):
+            text = self.message(grammar)
+            if oracle.read(text, grammar, len(text)).number == 0:
+                break
+        return text
+
+    def bundle(self):
+        grammars = self.random.choice([[1], [2], [3], [3], [1, 2, 3]])
+        text = b"".join(self.mostly_sound(self.random.choice(grammars)) for _ in range(self.random.randint(0, 4)))
+        return text if self.random.random() < 0.5 else self.damaged(text)
+
+
+    def grammar(self):
+        return self.random.choice([1, 2, 3] * 4 + [0, 4, 257])
+
+
+def compare_read(library, text, grammar, room):
+    """The number that oracle and library agree on."""
+    a = oracle.read(text, grammar, room)
+    passed = a.number in (0, 10)
+    label = [0, 0, 0, a.label_at if passed else 0, a.label_len if passed else 0, 0, 0, 0]
+    want = (a.number, [*a.row(), 0, 0, 0], bytes(a.out), 0, label)
+    got = called(library, text, grammar, room)
+    assert got == want, (text, grammar, room, got, want)
+    return a.number
+
+
+def compare_index(library, text, grammar, room):
+    """The number that oracle and library agree on."""
+    a = oracle.index(text, grammar, room)
+    want = (a.number, [*a.row(), 0, 0, 0], a.out)
+    got = indexed(library, text, grammar, room)
+    assert got == want, (text, grammar, room, got, want)
+    return a.number
 
 
 def main():
     library, texts, count = loaded(sys.argv[1]), Texts(int(sys.argv[2])), int(sys.argv[3])
-    answers = {}
+    read, index = collections.Counter(), collections.Counter()
     for _ in range(count):
-        text = texts.text()
-        grammar = texts.random.choice([1, 2, 3] * 4 + [0, 4, 257])
-        room = texts.random.choice([0, 1, 2, 3, 10, 60, 200])
-        a = oracle.read(text, grammar, room)
-        passed = a.number in (0, 10)
-        want = (a.number, [a.number, a.place, a.size, a.label_at, a.label_len, 0, 0, 0], bytes(a.out), 0, [0, 0, 0, a.label_at if passed else 0, a.label_len if passed else 0, 0, 0, 0])
-        got = called(library, text, grammar, room)
-        assert got == want, (text, grammar, room, got, want)
-        answers[a.number] = answers.get(a.number, 0) + 1
-    print(count, "cases agree; by number:", dict(sorted(answers.items())))
+        text, bundle = texts.text(), texts.bundle()
+        read[compare_read(library, text, texts.grammar(), texts.random.choice([0, 1, 2, 3, 10, 60, 200]))] += 1
+        index[compare_index(library, text, texts.grammar(), texts.random.choice([0, 1, 5, 6, 7]))] += 1
+        index[compare_index(library, bundle, texts.grammar(), texts.random.choice([0, 1, 6, 10, 11, 16, 21, 30]))] += 1
+    print(count, "texts read, by number:", dict(sorted(read.items())))
+    print(2 * count, "texts indexed, by number:", dict(sorted(index.items())))
 
 
 main()

@@ -1,6 +1,6 @@
-"""Writes what the program read_samples has to print, from its samples and the oracle alone.
+"""Writes what the program samples has to print, from its samples and the oracle alone.
 
-    python3 expected.py crates/read_samples/stdin > crates/read_samples/stdout
+    python3 expected.py crates/samples/stdin > crates/samples/stdout
 """
 import sys
 import zlib
@@ -45,6 +45,19 @@ def outcome(t, g, room):
     return "%d at %d clean" % (a.number, a.place)
 
 
+def index_line(name, t, g, room):
+    a = oracle.index(t, g, room)
+    size = a.size if a.number == 0 else 0
+    assert len(a.out) == room and not any(a.out[size:])
+    words = [name + ":", NAMES.get(g, g), room, "index", a.number, *a.row(), 0, 0, 0, "table", *a.out[:size], "clean"]
+    return numbers(words)
+
+
+def index_outcome(t, g, room):
+    a = oracle.index(t, g, room)
+    return "%d at %d clean" % (a.number, a.place)
+
+
 for sample in open(sys.argv[1]).read().split("@")[1:]:
     if sample.startswith("#"):
         continue
@@ -52,6 +65,12 @@ for sample in open(sys.argv[1]).read().split("@")[1:]:
     t, room = text_of(form, int(count)), int(room)
     if mode == "brief":
         print(name + ": " + " ".join(outcome(t, g, room) for g in (1, 2, 3)))
+    elif mode == "starts":
+        for k in range(len(t) + 1):
+            print("%s: %d %s" % (name, k, " ".join(index_outcome(t[:k], g, room) for g in (1, 2, 3))))
+    elif mode == "index" or mode.startswith("table"):
+        for g in (1, 2, 3) if mode == "index" else (int(mode[5:]),):
+            print(index_line(name, t, g, room))
     else:
         for g in (1, 2, 3) if mode == "each" else (int(mode),):
             print(line(name, t, g, room))

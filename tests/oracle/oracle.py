@@ -1,4 +1,4 @@
-"""The answers of the reader, worked out from the requirements paper by regular expressions.
+"""The answers of the reader and of the index, worked out from the requirements paper by regular expressions.
 
 A grammar is an expression tree. From it two patterns for `re` are made: the pattern of its whole texts, and the pattern
 of their starts, by the rules
@@ -131,13 +131,27 @@ last_group = Alt(
 # 1 to 16 groups of four, of which only the last may be short.
 strict_body = Seq(end, Rep(full_line), Rep(group, 0, 15), last_group, end)
 
-GRAMMARS = {
-    1: Seq(Rep(white), opening, Name("body", lax_body), closing, Rep(white)),
+# A message of a bundle with others before it: the white before its opening belongs to the earlier one.
+LATER = {
+    1: Seq(opening, Name("body", lax_body), closing, Rep(white)),
     2: Seq(opening, Name("body", standard_body), closing, blanks, Rep(end, 0, 1)),
     3: Seq(opening, Name("body", strict_body), closing, end),
 }
-WHOLE = {g: re.compile(t.whole().encode()) for g, t in GRAMMARS.items()}
-START = {g: re.compile(unnamed(t.start()).encode()) for g, t in GRAMMARS.items()}
+# A message by itself, or the first of a bundle.
+GRAMMARS = {1: Seq(Rep(white), LATER[1]), 2: LATER[2], 3: LATER[3]}
+BUNDLES = {g: Rep(Seq(t, Rep(LATER[g])), 0, 1) for g, t in GRAMMARS.items()}
+
+
+def wholes(trees):
+    return {g: re.compile(t.whole().encode()) for g, t in trees.items()}
+
+
+def starts(trees):
+    return {g: re.compile(unnamed(t.start()).encode()) for g, t in trees.items()}
+
+
+WHOLE, LATER_WHOLE = wholes(GRAMMARS), wholes(LATER)
+START, BUNDLE_START = starts(GRAMMARS), starts(BUNDLES)
 OPENED = {
     1: re.compile(unnamed(Seq(Rep(white), opening).whole()).encode()),
     2: re.compile(unnamed(opening.whole()).encode()),
@@ -145,18 +159,13 @@ OPENED = {
 }
 
 
-def begins(t, g):
-    """Some text of the grammar begins with t."""
-    return START[g].fullmatch(t) is not None
-
-
-def longest_start(t, g):
-    """The length of the longest start of t that some text of the grammar begins with. A start of a start is one, so
-    the lengths can be halved."""
+def longest_start(t, pattern):
+    """The length of the longest start of t that the pattern has. A start of a start is one, so the lengths can be
+    halved."""
     low, high = 0, len(t)
     while low < high:
         middle = (low + high + 1) // 2
-        if begins(t[:middle], g):
+        if pattern.fullmatch(t[:middle]) is not None:
             low = middle
         else:
             high = middle - 1
@@ -192,6 +201,24 @@ class Answer:
         return "%d at %d size %d label %d+%d" % self.row()
 
 
+def judged(m, t, g):
+    """The checks 6 to 9 of a message that the match m has found in t: the refusal's number and place, or zeros, and
+    the data."""
+    if len(m["opened"]) > 64:
+        return 6, m.start("opened"), b""
+    if m["opened"] != m["closed"]:
+        return 7, m.start("closed"), b""
+    chars = bytes(c for c in m["body"] if chr(c) in ALPHABET)
+    n, p = len(chars), m["body"].count(b"=")
+    if (n % 4, p) not in ((0, 0), (2, 2), (3, 1)):
+        return 8, m.start("dashes"), b""
+    data, spare = decoded(chars)
+    assert data == base64.b64decode(chars + b"=" * p)
+    if g == 3 and spare != 0:
+        return 9, max(i for i in range(m.start("body"), m.end("body")) if chr(t[i]) in ALPHABET), b""
+    return 0, 0, data
+
+
 def read(t, g, room):
     """The answer of the read call for the text t, the grammar number g and a lent output of `room` bytes."""
     zeros = bytes(room)
@@ -201,21 +228,11 @@ def read(t, g, room):
         return Answer(2, out=zeros)
     m = WHOLE[g].fullmatch(t)
     if m is None:
-        k = longest_start(t, g)
+        k = longest_start(t, START[g])
         return Answer(kind(t[:k], g), k, out=zeros)
-    if len(m["opened"]) > 64:
-        return Answer(6, m.start("opened"), out=zeros)
-    if m["opened"] != m["closed"]:
-        return Answer(7, m.start("closed"), out=zeros)
-    chars = bytes(c for c in m["body"] if chr(c) in ALPHABET)
-    n, p = len(chars), m["body"].count(b"=")
-    if (n % 4, p) not in ((0, 0), (2, 2), (3, 1)):
-        return Answer(8, m.start("dashes"), out=zeros)
-    data, spare = decoded(chars)
-    assert data == base64.b64decode(chars + b"=" * p)
-    if g == 3 and spare != 0:
-        last = max(i for i in range(m.start("body"), m.end("body")) if chr(t[i]) in ALPHABET)
-        return Answer(9, last, out=zeros)
+    number, place, data = judged(m, t, g)
+    if number != 0:
+        return Answer(number, place, out=zeros)
     at, length = m.start("opened"), len(m["opened"])
     if len(data) > room:
         return Answer(10, 0, len(data), at, length, zeros)
@@ -226,3 +243,36 @@ def label_part(t, g):
     """The label call: offset and length, or None where checks 1 to 9 refuse."""
     a = read(t, g, len(t))
     return (a.label_at, a.label_len) if a.number == 0 else None
+
+
+def messages(t, g):
+    """The whole messages from the left, each as long as it can be. Only the white, or the blanks and the line end,
+    behind the closing can be longer or shorter; `re` takes as much of them as there is."""
+    m = WHOLE[g].match(t)
+    while m is not None:
+        yield m
+        m = LATER_WHOLE[g].match(t, m.end())
+
+
+def index(t, g, room):
+    """The answer of the index call for a lent table of `room` numbers; `out` is the table."""
+    zeros = [0] * room
+    if g not in GRAMMARS:
+        return Answer(1, out=zeros)
+    if len(t) > 65536:
+        return Answer(2, out=zeros)
+    table, done = [0], 0
+    for m in messages(t, g):
+        number, place, data = judged(m, t, g)
+        if number != 0:
+            return Answer(number, place, out=zeros)
+        table[0] += 1
+        table += [m.start(), m.end() - m.start(), m.start("opened"), len(m["opened"]), len(data)]
+        done = m.end()
+    if done < len(t):
+        # Over bundles; what the start has of opening and closing is asked of the message behind the whole ones.
+        k = longest_start(t, BUNDLE_START[g])
+        return Answer(kind(t[done:k], g), k, out=zeros)
+    if len(table) > room:
+        return Answer(10, 0, len(table), out=zeros)
+    return Answer(0, 0, len(table), out=table + [0] * (room - len(table)))

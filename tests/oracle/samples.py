@@ -1,6 +1,6 @@
-"""Writes the samples, standard input of the program read_samples.
+"""Writes the samples, standard input of the program samples.
 
-    python3 samples.py DOCUMENT_001 > crates/read_samples/stdin
+    python3 samples.py DOCUMENT_001 > crates/samples/stdin
 """
 import random
 import re
@@ -41,6 +41,10 @@ def each(name, t, **more):
 
 def brief(name, t):
     put("brief", name, form(t), room=8)
+
+
+def index(name, t, room=20, **more):
+    put("index", name, form(t), room=room, **more)
 
 
 def message(opened, body, closed=None):
@@ -295,9 +299,120 @@ def draft_examples(path):
 
 
 comment("The examples of draft-josefsson-pkix-textual-00, in their order.")
-for k, lines in enumerate(draft_examples(sys.argv[1]), 1):
-    label = lines[0][11:-5]
-    put("each", "draft-%d-%s" % (k, label.replace(" ", "-")), "\n" + "".join(l + "$\n" for l in lines), room=1024)
+examples = ["".join(l + "$\n" for l in lines) for lines in draft_examples(sys.argv[1])]
+for k, example in enumerate(examples, 1):
+    label = example[11:example.index("-----$")]
+    put("each", "draft-%d-%s" % (k, label.replace(" ", "-")), "\n" + example, room=1024)
+
+comment("The index: samples of the requirements.")
+NO_LF = M[:-1]
+index("M-twice", M + M)
+index("M-no-last-LF-then-M", NO_LF + M)
+index("empty-text", b"")
+index("two-spaces", b"  ")
+index("M", M)
+
+comment("The room of the table.")
+for room in (11, 10, 6, 1, 0):
+    index("M-twice", M + M, room=room)
+for room in (1, 0):
+    index("empty-text", b"", room=room)
+index("M", M, room=6)
+index("M", M, room=5)
+index("closing-B-and-room", message(b"A", b"Zg==\n", b"B"), room=0)
+index("x-behind-and-room", M + b"x", room=0)
+
+comment("Grammars that are not known, and texts over the limit.")
+for g in (0, 4, 257, 4294967295):
+    put("table%d" % g, "M-twice", form(M + M), room=11)
+put("table0", "empty-text", "", room=0)
+put("table4", "over-the-limit", form(M) + "{ }", room=8, count=65537 - 39)
+for limit in (65536, 65537):
+    put("index", "white-before-%d" % limit, "{ }" + form(M + M), room=11, count=limit - 78)
+    put("index", "white-between-%d" % limit, form(M) + "{ }" + form(M), room=11, count=limit - 78)
+    put("index", "blanks-behind-%d" % limit, form(M + NO_LF) + "{&}$", room=11, count=limit - 78)
+
+comment("Messages of all lengths, and who owns what stands between them.")
+CRLF, CR = M.replace(b"\n", b"\r\n"), M.replace(b"\n", b"\r")
+index("LF-CRLF-CR", M + CRLF + CR)
+index("CR-LF-CRLF", CR + M + CRLF)
+index("CR-CR", CR + CR)
+index("no-line-end-three-times", NO_LF * 3)
+index("CR-then-LF", NO_LF + b"\r\n" + M)
+index("CRLF-then-LF", NO_LF + b"\r\n\n" + M)
+index("CR-then-CR", NO_LF + b"\r\r" + M)
+index("LF-then-CR", M + b"\r" + M)
+index("LF-then-LF", M + b"\n" + M)
+index("LF-behind-all", M + M + b"\n")
+index("CR-behind-all", M + NO_LF + b"\r")
+index("CR-LF-behind-all", M + CR + b"\n")
+index("CR-LF-LF-behind-all", M + CR + b"\n\n")
+index("blanks-between", NO_LF + b" \t" + M)
+index("blanks-and-line-end-between", NO_LF + b" \t\r\n" + M)
+index("SP-behind-LF", M + b" " + M)
+index("VT-between", NO_LF + b"\v" + M)
+index("FF-behind-LF", M + b"\f" + M)
+index("white-all-over", b" \t\r\n" + M + b"\n\n \v\f\r" + M + b"\t\n")
+index("SP-before", b" " + M + M)
+index("VT-before", b"\v" + M)
+index("SP-behind-all", M + M + b" ")
+index("white-behind-all", M + NO_LF + b"\t\r\n\v")
+index("SP-alone", b" ")
+index("LF-alone", b"\n")
+index("no-line-ends", b"-----BEGIN A-----Zm9v-----END A----------BEGIN B-----Zg==-----END B-----")
+index("empty-labels", message(b"", b"Zg==\n") * 2)
+index("empty-labels-no-data", b"-----BEGIN ----------END -----" * 3)
+index("empty-line-no-data", message(b"", b"\n") + body(b"\n"))
+index("no-data-between", M + body(b"") + M)
+index("labels-and-sizes", message(b"A-B C", b"Zm9v\n") + message(b"", FULL + b"\nZm8=\n") + message(b"x.y", FULL + b"\n"))
+
+comment("What the second message is refused for, or the first before it.")
+index("label-64", M + message(b"L" * 64, b"Zg==\n"))
+index("label-65", M + message(b"L" * 65, b"Zg==\n") + M)
+index("label-A--B", M + message(b"A--B", b"Zg==\n") + M)
+index("label-A-SP", M + message(b"A ", b"Zg==\n") + M)
+index("labels-differ", M + message(b"A", b"Zg==\n", b"B") + M)
+index("closing-of-the-first", M + message(b"B", b"Zg==\n", b"A") + M)
+index("closing-65", M + message(b"A", b"Zg==\n", b"L" * 65))
+index("counts", M + body(b"Zg=\n") + M)
+index("spare-bits", M + body(b"Zh==\n") + M)
+index("spare-bits-in-the-third", M + M + body(b"Zm9=\n"))
+index("begin", M + M.replace(b"BEGIN", b"begin"))
+index("pads", M + body(b"Zg===\n"))
+index("sixth-hyphen", M + M[:17] + b"-" + M[17:])
+index("line-65", M + body(FULL + b"A\n"))
+index("labels-then-begin", message(b"A", b"Zg==\n", b"B") + M.replace(b"BEGIN", b"begin"))
+index("counts-then-x", body(b"Zg=\n") + b"x")
+index("spare-bits-then-labels", body(b"Zh==\n") + message(b"A", b"Zg==\n", b"B"))
+index("begin-then-labels", M.replace(b"BEGIN", b"begin") + message(b"A", b"Zg==\n", b"B"))
+index("long-label-then-labels", message(b"L" * 65, b"Zg==\n") + message(b"A", b"Zg==\n", b"B"))
+index("x-behind", M + b"x" + M)
+index("x-behind-no-LF", NO_LF + b"x")
+index("x-behind-all", M + M + b"x")
+index("0xFF-behind", M + b"\xff")
+index("sixth-hyphen-on-closing", NO_LF + b"-\n" + M)
+index("six-hyphens", M + b"-" + M)
+index("text-between", M + b"subject=A\n" + M)
+index("x-before", b"x" + M)
+
+comment("Every start of bundles of two.")
+put("starts", "M-M", form(M + M), room=16)
+put("starts", "CRLF-no-LF", form(CRLF + NO_LF), room=11)
+put("starts", "VT-A-B-M", form(b"\v" + message(b"A-B", b"\nZm8=\n\n") + b" \r\n" + M), room=16)
+
+comment("Texts of 65,536 bytes full of messages.")
+SMALL = form(b"-----BEGIN ----------END -----")
+put("table1", "full-30", "{" + SMALL + "}" + "$" * 16, room=10921, count=2184)
+put("table1", "full-30", "{" + SMALL + "}" + "$" * 16, room=10920, count=2184)
+put("table1", "full-30-x", "{" + SMALL + "}" + "$" * 15 + "x", room=10921, count=2184)
+put("table1", "full-30-cut", "{" + SMALL + "}" + SMALL[:16], room=10921, count=2184)
+LINES = "-----BEGIN FULL-----$" + (FULL.decode() + "$\n") * 7 + "AQIDBAUGBwgJCgsM$-----END FULL-----$"
+put("index", "full-512", "{" + LINES + "}", room=642, count=128)
+
+comment("Bundles of the examples.")
+put("index", "draft-all", "\n" + "".join(examples), room=46)
+for i, k in ((3, 4), (4, 8), (9, 3)):
+    put("index", "draft-%d-%d" % (i, k), "\n" + examples[i - 1] + examples[k - 1], room=12)
 
 text = "".join(out)
 assert len(text) <= 65536, len(text)

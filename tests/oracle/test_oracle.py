@@ -1,9 +1,10 @@
-"""The oracle on the paper's sample table, then against derivatives of the same grammars over whole line ends."""
+"""The oracle on the paper's samples, then against derivatives of the same grammars over whole line ends, and against a
+search of every way to cut a text into messages."""
 import random
 from functools import lru_cache
 
 import oracle
-from oracle import read
+from oracle import index, read
 
 M = b"-----BEGIN A-----\nZg==\n-----END A-----\n"
 
@@ -54,6 +55,67 @@ for g in (1, 2, 3):
 big = M + b" " * (65536 - 39)
 assert read(big, 1, 1).number == 0 and read(big + b" ", 1, 1).number == 2
 assert read(b"  ", 1, 1).row()[:2] == (3, 2)
+
+# Rows of the index: a text, and for each grammar the numbers of the table or a number and a place.
+TWO = [2, 0, 39, 11, 1, 1, 39, 39, 50, 1, 1]
+JOINED = [2, 0, 38, 11, 1, 1, 38, 39, 49, 1, 1]
+R = M[:-1] + b"\r"
+BUNDLES = [
+    ("M twice", M + M, TWO, TWO, TWO),
+    ("M without its LF, then M", M[:-1] + M, JOINED, JOINED, (5, 38)),
+    ("empty", b"", [0], [0], [0]),
+    ("two spaces", b"  ", (3, 2), (3, 0), (3, 0)),
+    ("M", M, [1] + TWO[1:6], [1] + TWO[1:6], [1] + TWO[1:6]),
+    ("SP before", b" " + M + M, [2, 0, 40, 12, 1, 1, 40, 39, 51, 1, 1], (3, 0), (3, 0)),
+    ("SP between", M + b" " + M, [2, 0, 40, 11, 1, 1, 40, 39, 51, 1, 1], (3, 39), (3, 39)),
+    ("HT for the LF", M[:-1] + b"\t" + M, TWO, TWO, (5, 38)),
+    ("VT for the LF", M[:-1] + b"\v" + M, TWO, (3, 38), (5, 38)),
+    ("LF LF between", M + b"\n" + M, [2, 0, 40, 11, 1, 1, 40, 39, 51, 1, 1], (3, 39), (3, 39)),
+    ("CRLF between", R + b"\n" + M, [2, 0, 40, 11, 1, 1, 40, 39, 51, 1, 1], [2, 0, 40, 11, 1, 1, 40, 39, 51, 1, 1],
+     [2, 0, 40, 11, 1, 1, 40, 39, 51, 1, 1]),
+    ("CR between", R + M, TWO, TWO, TWO),
+    ("CR CRLF between", R + b"\r\n" + M, [2, 0, 41, 11, 1, 1, 41, 39, 52, 1, 1], (3, 39), (3, 39)),
+    ("CRLF LF between", R + b"\n\n" + M, [2, 0, 41, 11, 1, 1, 41, 39, 52, 1, 1], (3, 40), (3, 40)),
+    ("white behind", M + M + b" \n", [2, 0, 39, 11, 1, 1, 39, 41, 50, 1, 1], (3, 78), (3, 78)),
+    ("x behind", M + b"x", (3, 39), (3, 39), (3, 39)),
+    ("x behind no LF", M[:-1] + b"x", (3, 38), (3, 38), (5, 38)),
+    ("x before", b"x" + M, (3, 0), (3, 0), (3, 0)),
+    ("hyphens behind", M + b"------", (3, 44), (3, 44), (3, 44)),
+    ("sixth hyphen on closing", M[:-1] + b"-\n", (3, 39), (3, 39), (5, 38)),
+    ("opening behind", M + M[:17], (4, 56), (4, 56), (4, 56)),
+    ("opening without its last hyphen behind", M + M[:16], (3, 55), (3, 55), (3, 55)),
+    ("body behind", M + M[:23], (4, 62), (4, 62), (4, 62)),
+    ("hyphen of a closing behind", M + M[:24], (5, 63), (5, 63), (5, 63)),
+    ("Zh== in the second", M + body(b"Zh==\n") + M, [3] + TWO[1:] + [78, 39, 89, 1, 1], [3] + TWO[1:] + [78, 39, 89, 1, 1],
+     (9, 58)),
+    ("Zg= in the second", M + body(b"Zg=\n"), (8, 61), (8, 61), (4, 60)),
+    ("closing B in the second", M + M[:32] + b"B" + M[33:], (7, 71), (7, 71), (7, 71)),
+    ("closing B, then x", M[:32] + b"B" + M[33:] + b"x", (7, 32), (7, 32), (7, 32)),
+    ("label of 65 in the second", M + M.replace(b"A", b"L" * 65), (6, 50), (6, 50), (6, 50)),
+    ("label with two hyphens in the second", M + M.replace(b"A", b"A--B"), (3, 53), (3, 53), (3, 53)),
+    ("empty labels and data", b"-----BEGIN -----\n\n-----END -----" * 2, [2, 0, 32, 11, 0, 0, 32, 32, 43, 0, 0],
+     [2, 0, 32, 11, 0, 0, 32, 32, 43, 0, 0], (4, 17)),
+]
+for row in BUNDLES:
+    for g in (1, 2, 3):
+        want = row[1 + g]
+        if isinstance(want, tuple):
+            a = index(row[1], g, 20)
+            assert a.row() == want + (0, 0, 0) and a.out == [0] * 20, (row[0], g, a)
+            continue
+        n = len(want)
+        for room in (0, 1, n - 1, n, n + 7):
+            a = index(row[1], g, room)
+            assert a.row() == (0 if n <= room else 10, 0, n, 0, 0), (row[0], g, room, a)
+            assert a.out == (want + [0] * (room - n) if n <= room else [0] * room), (row[0], g, room)
+for g in (0, 4, 257, 4294967295):
+    for t in (b"", M, big + b" "):
+        assert index(t, g, 0).row() == (1, 0, 0, 0, 0)
+assert index(big, 1, 6).out == [1, 0, 65536, 11, 1, 1] and index(big + b" ", 1, 6).row() == (2, 0, 0, 0, 0)
+full = b"-----BEGIN ----------END -----" * 2184
+assert index(full, 1, 10920).row() == (10, 0, 10921, 0, 0)
+assert index(full + b" " * 16, 1, 10921).out[-5:] == [65490, 46, 65501, 0, 0]
+assert index(full + b"x", 1, 0).row() == (3, 65520, 0, 0, 0)
 
 
 # A second method: derivatives. The text is cut into marks, a CRLF being one mark, and the grammar is derived by each. An
@@ -155,11 +217,13 @@ LINE = chain(rep(A, 1, None), many(BL), E)
 FINAL = chain(many(A), rep(PAD, 0, 2), many(BL), E)
 GROUP = rep(A, 4, 4)
 LAST = alt(GROUP, alt(seq(rep(A, 3, 3), PAD), chain(rep(A, 2, 2), PAD, PAD)))
-D = {
-    1: chain(many(W), OPEN, many(AW), rep(seq(PAD, many(W)), 0, 2), CLOSE, many(W)),
+LATER = {
+    1: chain(OPEN, many(AW), rep(seq(PAD, many(W)), 0, 2), CLOSE, many(W)),
     2: chain(OPEN, many(BL), E, many(alt(BL, E)), many(LINE), FINAL, CLOSE, many(BL), rep(E, 0, 1)),
     3: chain(OPEN, E, many(seq(rep(A, 64, 64), E)), rep(GROUP, 0, 15), LAST, E, CLOSE, E),
 }
+ONE = {1: seq(many(W), LATER[1]), 2: LATER[2], 3: LATER[3]}
+ALL = {g: rep(seq(ONE[g], many(LATER[g])), 0, 1) for g in ONE}
 
 
 def cut(t):
@@ -171,9 +235,9 @@ def cut(t):
     return out
 
 
-def by_derivatives(t, g):
+def by_derivatives(t, e):
     """(accepted, longest start)."""
-    e, done = D[g], 0
+    done = 0
     for mark in cut(t):
         d = derive(e, mark)
         if d == NONE:
@@ -185,15 +249,51 @@ def by_derivatives(t, g):
     return nullable(e), done
 
 
+def check_starts(t, k, pattern):
+    """The starts up to k are good, and no other start of the text is."""
+    assert k == oracle.longest_start(t, pattern), (t, k, oracle.longest_start(t, pattern))
+    if len(t) < 60:
+        for i in range(len(t) + 1):
+            assert (pattern.fullmatch(t[:i]) is not None) == (i <= k), (t, i)
+
+
 def check(t):
     for g in (1, 2, 3):
-        ok, k = by_derivatives(t, g)
+        ok, k = by_derivatives(t, ONE[g])
         assert ok == (oracle.WHOLE[g].fullmatch(t) is not None), (t, g)
-        assert k == oracle.longest_start(t, g), (t, g, k, oracle.longest_start(t, g))
-        # The starts of a good start are good, and no other start of the text is.
-        if len(t) < 60:
-            for i in range(len(t) + 1):
-                assert oracle.begins(t[:i], g) == (i <= k), (t, g, i)
+        check_starts(t, k, oracle.START[g])
+
+
+def cuts(t, g, pattern):
+    """Every way to cut t into messages, as lists of their ends. CR and LF of one CRLF are not cut apart."""
+    if t == b"":
+        return [[]]
+    ways = []
+    for n in range(30, len(t) + 1):
+        if t[n - 1:n + 1] != b"\r\n" and pattern.fullmatch(t[:n]):
+            ways += [[n] + [n + i for i in way] for way in cuts(t[n:], g, oracle.LATER_WHOLE[g])]
+    return ways
+
+
+def check_bundle(t, search):
+    """The bundle that the oracle sees is the one that derivatives accept and, of short texts, the only one."""
+    for g in (1, 2, 3):
+        ok, k = by_derivatives(t, ALL[g])
+        ends = [m.end() for m in oracle.messages(t, g)]
+        assert ok == ((ends or [0])[-1] == len(t)), (t, g)
+        check_starts(t, k, oracle.BUNDLE_START[g])
+        assert all(i <= k for i in ends), (t, g)
+        if search:
+            assert cuts(t, g, oracle.WHOLE[g]) == ([ends] if ok else []), (t, g)
+        a = index(t, g, 99)
+        if not ok:
+            assert a.number in (3, 4, 5) and a.place == k or a.number in (6, 7, 8, 9), (t, g, a)
+        # One message is a bundle with the reader's label and size; what one message refuses by 6 to 9 a bundle does too.
+        b = read(t, g, 99)
+        if b.number == 0:
+            assert a.out[:6] == [1, 0, len(t), b.label_at, b.label_len, b.size], (t, g)
+        elif b.number > 5:
+            assert a.row() == b.row(), (t, g)
 
 
 random.seed(7468)
@@ -204,15 +304,29 @@ BASES = [row[1] for row in TABLE] + [
 ]
 PIECES = [b"-", b"-----", b" ", b"\t", b"\r", b"\n", b"\r\n", b"\v", b"\f", b"=", b"==", b"A", b"Zm9v", b"A" * 63,
           b"\xff", b"\x00", b"~", b"-----BEGIN ", b"-----END ", b"BEGIN", b"a-b", b"*"]
+
+
+def damaged(t, edits):
+    for _ in range(edits):
+        i = random.randint(0, len(t))
+        j = min(len(t), i + random.choice((0, 0, 0, 1, 1, 2, 5)))
+        t = t[:i] + random.choice(PIECES + [b""]) + t[j:]
+    return t
+
+
 for t in BASES:
     check(t)
     for i in range(len(t) + 1):
         check(t[:i])
 for _ in range(6000):
-    t = random.choice(BASES)
-    for _ in range(random.randint(1, 3)):
-        i = random.randint(0, len(t))
-        j = min(len(t), i + random.choice((0, 0, 0, 1, 1, 2, 5)))
-        t = t[:i] + random.choice(PIECES + [b""]) + t[j:]
-    check(t)
+    check(damaged(random.choice(BASES), random.randint(1, 3)))
+
+BETWEEN = [b"", b"", b"", b" ", b"\t", b"\n", b"\r", b"\r\n", b"\n\n", b"\v", b"x", b"-"]
+for row in BUNDLES:
+    check_bundle(row[1], True)
+    for i in range(len(row[1])):
+        check_bundle(row[1][:i], i < 90)
+for _ in range(6000):
+    t = b"".join(random.choice(BASES) + random.choice(BETWEEN) for _ in range(random.randint(0, 4)))
+    check_bundle(damaged(t, random.choice((0, 0, 1, 2))), len(t) < 130)
 print("ok")

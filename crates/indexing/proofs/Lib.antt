@@ -6,3 +6,4 @@ pub mod Steps
 pub mod Entries
 pub mod Meaning
 pub mod Claims
+pub mod Samples

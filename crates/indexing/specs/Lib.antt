@@ -3,3 +3,4 @@ pub mod Answers
 pub mod Meaning
 pub mod Index
 pub mod Claims
+pub mod Samples

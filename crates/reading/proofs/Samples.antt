@@ -11,18 +11,46 @@ use Rattle.base64.specs.Alphabet.{alphabet, placeIn, valueOf}
 use Rattle.base64.proofs.Tests.{both, both-left, both-right}
 use Rattle.grammar.specs.Grammars.{laxNumber, standardNumber, strictNumber}
 use Rattle.grammar.specs.Message.{characters, padCount}
-use Rattle.reading.specs.Answers.{offset, byteCount, span, numberOf, placeOf, sizeOf, labelOffsetOf, labelLengthOf}
+use Rattle.reading.specs.Answers.{offset, byteCount, span, refusalNumber, refusalPlace, numberOf, placeOf, sizeOf, labelOffsetOf, labelLengthOf}
 use Rattle.reading.specs.Data.{sameBytes}
 use Rattle.reading.specs.Read.{readOf, outputOf}
 use Rattle.reading.specs.Samples.{Outcome, room, answerFor, outputFor, Row, Holds, RowHolds, rows, Samples}
 use Rattle.reading.specs.declared.Found.{Found}
 use Rattle.reading.specs.declared.ReadAnswer.{ReadAnswer}
 use Rattle.reading.specs.declared.ReadAnswer.the-variants.{Accepted, Refused, OutputTooSmall}
+use Rattle.reading.specs.declared.Refusal.{Refusal}
 use Rattle.reading.specs.declared.Refusal.the-variants.{UnknownGrammar, TextTooLong, BadOpening, BadBody, BadClosing, LabelTooLong, LabelsDiffer, BadCounts, SpareBits}
 use Rattle.reading.proofs.Data.{same-true}
 use Rattle.reading.proofs.Meaning.{read-means}
 
--- ---- An answer is settled by its five numbers
+-- ---- An answer is settled by its numbers
+
+abbrev refusalBy : ℕ → ℕ → Refusal
+refusalBy n at =
+    cond (eqb n 1) UnknownGrammar
+    (cond (eqb n 2) TextTooLong
+    (cond (eqb n 3) (BadOpening (offset at))
+    (cond (eqb n 4) (BadBody (offset at))
+    (cond (eqb n 5) (BadClosing (offset at))
+    (cond (eqb n 6) (LabelTooLong (offset at))
+    (cond (eqb n 7) (LabelsDiffer (offset at))
+    (cond (eqb n 8) (BadCounts (offset at))
+    (SpareBits (offset at)))))))))
+
+abbrev pub settled : {A : Type 0} → A → A → (Refusal → A) → ℕ → ℕ → A
+settled accepted small refuse n at = cond (eqb n 0) accepted (cond (eqb n 10) small (refuse (refusalBy n at)))
+
+pub refusal-settled : {A : Type 0} (accepted small : A) (refuse : Refusal → A) (r : Refusal)
+    → settled accepted small refuse (refusalNumber r) (refusalPlace r) ≡ refuse r
+refusal-settled accepted small refuse UnknownGrammar = refl
+refusal-settled accepted small refuse TextTooLong = refl
+refusal-settled accepted small refuse (BadOpening at) = refl
+refusal-settled accepted small refuse (BadBody at) = refl
+refusal-settled accepted small refuse (BadClosing at) = refl
+refusal-settled accepted small refuse (LabelTooLong at) = refl
+refusal-settled accepted small refuse (LabelsDiffer at) = refl
+refusal-settled accepted small refuse (BadCounts at) = refl
+refusal-settled accepted small refuse (SpareBits at) = refl
 
 abbrev codeOf : ReadAnswer → List ℕ
 codeOf a = numberOf a ∷ placeOf a ∷ sizeOf a ∷ labelOffsetOf a ∷ labelLengthOf a ∷ []
@@ -31,78 +59,67 @@ abbrev foundBy : List ℕ → Found
 foundBy l = record { size = byteCount (getD l 2 0); label = span (getD l 3 0) (getD l 4 0) }
 
 abbrev answerBy : List ℕ → ReadAnswer
-answerBy l =
-    cond (eqb (getD l 0 0) 0) (Accepted (foundBy l))
-    (cond (eqb (getD l 0 0) 10) (OutputTooSmall (foundBy l))
-    (cond (eqb (getD l 0 0) 1) (Refused UnknownGrammar)
-    (cond (eqb (getD l 0 0) 2) (Refused TextTooLong)
-    (cond (eqb (getD l 0 0) 3) (Refused (BadOpening (offset (getD l 1 0))))
-    (cond (eqb (getD l 0 0) 4) (Refused (BadBody (offset (getD l 1 0))))
-    (cond (eqb (getD l 0 0) 5) (Refused (BadClosing (offset (getD l 1 0))))
-    (cond (eqb (getD l 0 0) 6) (Refused (LabelTooLong (offset (getD l 1 0))))
-    (cond (eqb (getD l 0 0) 7) (Refused (LabelsDiffer (offset (getD l 1 0))))
-    (cond (eqb (getD l 0 0) 8) (Refused (BadCounts (offset (getD l 1 0))))
-    (Refused (SpareBits (offset (getD l 1 0)))))))))))))
+answerBy l = settled (Accepted (foundBy l)) (OutputTooSmall (foundBy l)) Refused (getD l 0 0) (getD l 1 0)
 
 answer-coded : (a : ReadAnswer) → answerBy (codeOf a) ≡ a
 answer-coded (Accepted found) = refl
 answer-coded (OutputTooSmall found) = refl
-answer-coded (Refused UnknownGrammar) = refl
-answer-coded (Refused TextTooLong) = refl
-answer-coded (Refused (BadOpening at)) = refl
-answer-coded (Refused (BadBody at)) = refl
-answer-coded (Refused (BadClosing at)) = refl
-answer-coded (Refused (LabelTooLong at)) = refl
-answer-coded (Refused (LabelsDiffer at)) = refl
-answer-coded (Refused (BadCounts at)) = refl
-answer-coded (Refused (SpareBits at)) = refl
+answer-coded (Refused r) = refusal-settled _ _ Refused r
 
-pub answer-unique : (a b : ReadAnswer) → codeOf a ≡ codeOf b → a ≡ b
+answer-unique : (a b : ReadAnswer) → codeOf a ≡ codeOf b → a ≡ b
 answer-unique a b e = sym (answer-coded a) ∙ ap answerBy e ∙ answer-coded b
 
--- ---- The test
+-- ---- Rows are tested one by one
+
+-- Two lists that the test finds equal.
+pub tested-same : (a b : List ℕ) → T (sameBytes a b) → a ≡ b
+tested-same a b t = same-true a b (test-true (sameBytes a b) t)
+  where
+    test-true : (b : Bool) → T b → b ≡ true
+    test-true true t = refl
+    test-true false t = absurd t
+
+abbrev rowTest : {Outcome : Type 0} → (ℕ → List ℕ → Outcome → Bool) → Row Outcome → Bool
+rowTest test r =
+    both (test laxNumber (r .text) (r .lax)) (both (test standardNumber (r .text) (r .standard)) (test strictNumber (r .text) (r .strict)))
+
+abbrev pub rowsTest : {Outcome : Type 0} → (ℕ → List ℕ → Outcome → Bool) → List (Row Outcome) → Bool
+rowsTest test [] = true
+rowsTest test (r ∷ rs) = both (rowTest test r) (rowsTest test rs)
+
+-- Where the test of an outcome tells that it holds, that of a list of rows tells that they do.
+pub rows-hold : {Outcome : Type 0} (test : ℕ → List ℕ → Outcome → Bool) (Has : ℕ → List ℕ → Outcome → Type 0)
+    → ((number : ℕ) (text : List ℕ) (o : Outcome) → T (test number text o) → Has number text o) → (rs : List (Row Outcome)) → T (rowsTest test rs)
+    → All (RowHolds Has) rs
+rows-hold test Has sound [] t = tt
+rows-hold test Has sound (r ∷ rs) t =
+    let u : T (rowTest test r) = both-left (rowTest test r) (rowsTest test rs) t in
+    let lax = test laxNumber (r .text) (r .lax) in
+    let standard = test standardNumber (r .text) (r .standard) in
+    let strict = test strictNumber (r .text) (r .strict) in
+    let v : T (both standard strict) = both-right lax (both standard strict) u in (
+      (
+        sound laxNumber (r .text) (r .lax) (both-left lax (both standard strict) u),
+        sound standardNumber (r .text) (r .standard) (both-left standard strict v),
+        sound strictNumber (r .text) (r .strict) (both-right standard strict v),
+      ),
+      rows-hold test Has sound rs (both-right (rowTest test r) (rowsTest test rs) t),
+    )
+
+-- ---- The samples of the read call
 
 abbrev outcomeTest : ℕ → List ℕ → Outcome → Bool
 outcomeTest number text o =
     both (sameBytes (codeOf (readOf text number room)) (codeOf (answerFor o))) (sameBytes (outputOf text number room) (outputFor o))
 
-test-true : (b : Bool) → T b → b ≡ true
-test-true true t = refl
-test-true false t = absurd t
-
 outcome-holds : (number : ℕ) (text : List ℕ) (o : Outcome) → T (outcomeTest number text o) → Holds number text o
 outcome-holds number text o t =
     let codes : Bool = sameBytes (codeOf (readOf text number room)) (codeOf (answerFor o)) in
     let outputs : Bool = sameBytes (outputOf text number room) (outputFor o) in
-    let a : readOf text number room ≡ answerFor o = answer-unique _ _ (same-true _ _ (test-true codes (both-left codes outputs t))) in
-    let p : outputOf text number room ≡ outputFor o = same-true _ _ (test-true outputs (both-right codes outputs t)) in
+    let a : readOf text number room ≡ answerFor o = answer-unique _ _ (tested-same _ _ (both-left codes outputs t)) in
+    let p : outputOf text number room ≡ outputFor o = tested-same _ _ (both-right codes outputs t) in
     rw (a, p) at (read-means text number room)
-
-abbrev rowTest : Row → Bool
-rowTest r =
-    both (outcomeTest laxNumber (r .text) (r .lax))
-    (both (outcomeTest standardNumber (r .text) (r .standard)) (outcomeTest strictNumber (r .text) (r .strict)))
-
-abbrev rowsTest : List Row → Bool
-rowsTest [] = true
-rowsTest (r ∷ rs) = both (rowTest r) (rowsTest rs)
-
-rows-hold : (rs : List Row) → T (rowsTest rs) → All RowHolds rs
-rows-hold [] t = tt
-rows-hold (r ∷ rs) t =
-    let u : T (rowTest r) = both-left (rowTest r) (rowsTest rs) t in
-    let lax = outcomeTest laxNumber (r .text) (r .lax) in
-    let standard = outcomeTest standardNumber (r .text) (r .standard) in
-    let strict = outcomeTest strictNumber (r .text) (r .strict) in
-    let v : T (both standard strict) = both-right lax (both standard strict) u in (
-      (
-        outcome-holds laxNumber (r .text) (r .lax) (both-left lax (both standard strict) u),
-        outcome-holds standardNumber (r .text) (r .standard) (both-left standard strict v),
-        outcome-holds strictNumber (r .text) (r .strict) (both-right standard strict v),
-      ),
-      rows-hold rs (both-right (rowTest r) (rowsTest rs) t),
-    )
 
 pub samples : Samples
 unfolding valueOf placeIn alphabet characters padCount sameBytes
-samples = rows-hold rows tt
+samples = rows-hold outcomeTest Holds outcome-holds rows tt

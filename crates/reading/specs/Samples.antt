@@ -30,20 +30,22 @@ outputFor (accepted content) = content ++ replicate (room - length content) 0
 outputFor (refused refusal) = replicate room 0
 
 -- A row: a text and its outcome under each grammar.
-pub record Row : Type 0 where
+pub record Row (Outcome : Type 0) : Type 0 where
   pub text : List ℕ
   pub lax : Outcome
   pub standard : Outcome
   pub strict : Outcome
 
+-- The row holds: under each grammar's number its text has its outcome.
+abbrev pub RowHolds : {Outcome : Type 0} → (ℕ → List ℕ → Outcome → Type 0) → Row Outcome → Type 0
+RowHolds Has r = Has laxNumber (r .text) (r .lax) × Has standardNumber (r .text) (r .standard) × Has strictNumber (r .text) (r .strict)
+
+abbrev pub row : {Outcome : Type 0} → List ℕ → Outcome → Outcome → Outcome → Row Outcome
+row text lax standard strict = record { text = text; lax = lax; standard = standard; strict = strict }
+
+-- What the read call answers to a text.
 abbrev pub Holds : ℕ → List ℕ → Outcome → Type 0
 Holds number text o = Reads text number room (answerFor o) (outputFor o)
-
-abbrev pub RowHolds : Row → Type 0
-RowHolds r = Holds laxNumber (r .text) (r .lax) × Holds standardNumber (r .text) (r .standard) × Holds strictNumber (r .text) (r .strict)
-
-abbrev pub row : List ℕ → Outcome → Outcome → Outcome → Row
-row text lax standard strict = record { text = text; lax = lax; standard = standard; strict = strict }
 
 -- The numbers of the table, each with its place.
 abbrev pub no3 : ℕ → Outcome
@@ -64,7 +66,7 @@ no8 n = refused (BadCounts (offset n))
 abbrev pub no9 : ℕ → Outcome
 no9 n = refused (SpareBits (offset n))
 
-abbrev pub rows : List Row
+abbrev pub rows : List (Row Outcome)
 rows =
     -- M
     row M (accepted (102 ∷ [])) (accepted (102 ∷ [])) (accepted (102 ∷ []))
@@ -94,4 +96,4 @@ rows =
 
 -- The claim.
 abbrev pub Samples : Type 0
-Samples = All RowHolds rows
+Samples = All (RowHolds Holds) rows

@@ -10,6 +10,9 @@ use Rattle.reading.specs.declared.Judgement.the-variants as judgement
 use Rattle.reading.specs.declared.ReadAnswer.{ReadAnswer}
 use Rattle.reading.specs.declared.ReadAnswer.the-variants as answer
 use Rattle.reading.specs.declared.Refusal.{Refusal}
+use Rattle.indexing.specs.Answers as indexed
+use Rattle.indexing.specs.declared.IndexAnswer.{IndexAnswer}
+use Rattle.indexing.specs.declared.TableSize.{TableSize}
 
 abbrev pub report : (number place size at length : ℕ) → List ℕ
 report number place size at length = number ∷ place ∷ size ∷ at ∷ length ∷ 0 ∷ 0 ∷ 0 ∷ []
@@ -31,6 +34,13 @@ judgedReport (judgement.Refused r) = report 0 0 0 0 0
 
 abbrev pub labelReport : List ℕ → ℕ → List ℕ
 labelReport text number = judgedReport (judgeOf text number)
+
+-- The numbers of an answer of the index call: it has no label.
+abbrev pub indexReport : IndexAnswer → List ℕ
+indexReport a = report (indexed.numberOf a) (indexed.placeOf a) (indexed.sizeOf a) 0 0
+
+abbrev pub sizeReport : ℕ → TableSize → List ℕ
+sizeReport number size = report number 0 (size .0) 0 0
 
 -- The part of a text that slots 3 and 4 name.
 abbrev pub reportedPart : List ℕ → List ℕ → List ℕ

@@ -7,7 +7,12 @@ ghost use lib.ListN.{length};
 ghost use Rattle.reading.specs.Answers.{numberOf};
 ghost use Rattle.reading.specs.Meaning.{Reads, HandsBack};
 ghost use Rattle.reading.specs.Read.{readOf, outputOf};
-ghost use Rattle.zullifern.specs.Reports.{readReport, refusalReport, foundReport, labelReport, judgedReport, reportedPart};
+ghost use Rattle.indexing.specs.Answers as indexed;
+ghost use Rattle.indexing.specs.Meaning.{Indexes};
+ghost use Rattle.indexing.specs.Index.{indexOf, lentTable};
+ghost use Rattle.zullifern.specs.Reports.{readReport, refusalReport, foundReport, labelReport, judgedReport, reportedPart, sizeReport, indexReport};
+use indexing::IndexAnswer;
+use indexing::TableSize;
 use reading::Found;
 use reading::Judgement;
 use reading::ReadAnswer;
@@ -74,6 +79,24 @@ fn label_report(judgement: Judgement) -> [u64; 8]
     }
 }
 
+// The report of a bundle that was found, under the number 0 or 10.
+fn size_report(number: u64, size: TableSize) -> [u64; 8]
+    ensures { λ r. ⌜ r ≡ sizeReport number size ⌝ }
+{
+    [number, 0, size.0 as u64, 0, 0, 0, 0, 0]
+}
+
+// The report of what `index` answers.
+fn index_report(answer: IndexAnswer) -> [u64; 8]
+    ensures { λ r. ⌜ r ≡ indexReport answer ⌝ }
+{
+    match answer {
+        IndexAnswer::Accepted(size) => size_report(0, size),
+        IndexAnswer::Refused(refusal) => refusal_report(refusal),
+        IndexAnswer::TableTooSmall(size) => size_report(10, size),
+    }
+}
+
 // Fills the lent report.
 fn put_report(values: [u64; 8], report: &mut [u64; 8])
     ensures { λ _. ⌜ now (report .exit) ≡ values ⌝ }
@@ -105,4 +128,21 @@ pub extern "C" fn zullifern_label(text: &[u8], grammar: u32, report: &mut [u64; 
 {
     put_report(label_report(reader::judge(text, grammar)), report);
     0
+}
+
+// Indexes a text that is to be a bundle of the grammar of this number, and answers the number. After 0 the table holds the
+// count, five numbers for each message (start, length, label offset, label length, data size) and then zeros, after anything
+// else zeros only, whatever it held before.
+#[no_mangle]
+pub extern "C" fn zullifern_index(
+    text: &[u8],
+    grammar: u32,
+    table: &mut [u32],
+    report: &mut [u64; 8],
+) -> u32
+    ensures { λ r. ⌜ (r ≡ indexed.numberOf (indexOf (now (text .entry)) grammar (length (now (table .entry))))) × (now (report .exit) ≡ indexReport (indexOf (now (text .entry)) grammar (length (now (table .entry))))) × (now (table .exit) ≡ lentTable (now (text .entry)) grammar (length (now (table .entry)))) × Indexes (now (text .entry)) grammar (length (now (table .entry))) (indexOf (now (text .entry)) grammar (length (now (table .entry)))) (now (table .exit)) ⌝ }
+{
+    let answer = index::index(text, grammar, table);
+    put_report(index_report(answer), report);
+    index::answer_number(answer)
 }

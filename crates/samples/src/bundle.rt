@@ -1,0 +1,73 @@
+// The index call on one text, and the line that shows its answer.
+use crate::bytes;
+use crate::call;
+use crate::print;
+use crate::table;
+
+// What each number of a table is before a call.
+const STALE: u32 = 0xFFFFFFFF;
+
+// The index call on a table and a report that are not zero.
+fn call_index(text: &[u8], grammar: u32, lent: &mut [u32], report: &mut [u64; 8]) -> u32 {
+    table::fill(lent, STALE);
+    *report = [call::UNSET; 8];
+    zullifern::zullifern_index(text, grammar, lent, report)
+}
+
+// How many numbers of the table the answer has filled.
+fn filled(number: u32, report: &[u64; 8]) -> usize {
+    if number == 0 { report[2] as usize } else { 0 }
+}
+
+// Name, grammar and room; what the index call answers, and its report; the table; whether all behind it is zero.
+pub fn index(name: &[u8], text: &[u8], grammar: u32, lent: &mut [u32]) {
+    let mut report = [0u64; 8];
+    let number = call_index(text, grammar, lent, &mut report);
+    let size = filled(number, &report);
+    print::word(name);
+    print::grammar(grammar);
+    print::number(lent.len() as u64);
+    print::word(b" index");
+    print::number(number as u64);
+    print::numbers(&report);
+    print::word(b" table");
+    print::table_numbers(lent, size);
+    print::clean(table::zero_from(lent, size));
+    print::word(b"\n");
+}
+
+pub fn index_each(name: &[u8], text: &[u8], lent: &mut [u32]) {
+    index(name, text, 1, lent);
+    index(name, text, 2, lent);
+    index(name, text, 3, lent);
+}
+
+// The number and the place, and whether all behind the table is zero.
+fn outcome(text: &[u8], grammar: u32, lent: &mut [u32]) {
+    let mut report = [0u64; 8];
+    let number = call_index(text, grammar, lent, &mut report);
+    print::number(number as u64);
+    print::word(b" at");
+    print::number(report[1]);
+    print::clean(table::zero_from(lent, filled(number, &report)));
+}
+
+// The outcome of the first bytes under each grammar, in one line.
+fn outcomes(name: &[u8], text: &[u8], count: usize, lent: &mut [u32]) {
+    let start = bytes::part(text, 0, count);
+    print::word(name);
+    print::number(count as u64);
+    outcome(start, 1, lent);
+    outcome(start, 2, lent);
+    outcome(start, 3, lent);
+    print::word(b"\n");
+}
+
+// The outcomes of every start of the text, the whole text among them.
+pub fn starts(name: &[u8], text: &[u8], lent: &mut [u32]) {
+    let mut count = 0;
+    while count <= text.len() {
+        outcomes(name, text, count, lent);
+        count += 1;
+    }
+}
