@@ -1,4 +1,5 @@
 -- Facts about the files of specs/, under the same names. Assumes nothing.
+pub mod Zeros
 pub mod Data
 pub mod Tallies
 pub mod Places

@@ -1,23 +1,19 @@
 -- `index::clear` meets its contract. The loop's invariant: the first i numbers are zero, and the rest is as it was. Assumes nothing.
-use mathlib.Core.Path.{_≡_, refl, ap, _∙_}
-use mathlib.Core.List.{List, _++_, append-nil}
-use Prim.Native.Nat.{ℕ, _-_, _≤_}
-use native.Mathlib.Omega.{arith}
-use lib.ListN.{length, set, drop, replicate, length-set}
-use lib.Seq.{drop-length}
+use Prim.Native.Nat.{_-_}
+use lib.ListN.{length}
 use borrow.Author.Needs.{needs}
-use borrow.Author.Fill.{fill-more}
+use Rattle.reading.proofs.Zeros.{Zeroed, zeroed-none, zeroed-next, zeroed-all}
 use Rattle.index.proofs.clear.Statement.{statement}
 use Rattle.index.proofs.clear.Tie as tie
 
 abbrev Inv-loop : tie.InvT-loop
-Inv-loop table₀ i₀ table i = (i ≤ length table₀) × (length table ≡ length table₀) × (table ≡ replicate i 0 ++ drop i table₀)
+Inv-loop table₀ i₀ table i = Zeroed table₀ i table
 
 abbrev μ-loop : tie.MeasureT-loop
 μ-loop table₀ i₀ table i = length table₀ - i
 
 loop-holds : tie.Need-loop-holds Inv-loop μ-loop
-loop-holds c = (search needs, refl, refl)
+loop-holds c = zeroed-none _
 
 mul-table : tie.Need-mul-table Inv-loop μ-loop
 mul-table c = search needs
@@ -32,21 +28,13 @@ loop-less : tie.Need-loop-less Inv-loop μ-loop
 loop-less c = search needs
 
 loop-again : tie.Need-loop-again Inv-loop μ-loop
-loop-again c =
-    let at-loop = c .before in
-    let i = at-loop .loop .i in (
-      search needs,
-      length-set (at-loop .loop .table) i 0 ∙ at-loop .loop .inv .1,
-      ap (λ (l : List ℕ). set l i 0) (at-loop .loop .inv .2) ∙ fill-more i 0 (at-loop .before .args .table .now) (omega arith),
-    )
+loop-again c = zeroed-next _ _ _ (c .before .loop .inv) (c .loop-test .taken)
 
 same-length : tie.Need-same-length Inv-loop μ-loop
 same-length c = search needs
 
 returns : tie.Need-returns Inv-loop μ-loop
-returns c =
-    let end : c .before .loop .i ≡ length (c .before .before .args .table .now) = omega arith in
-    c .before .loop .inv .2 ∙ rw (end, drop-length, append-nil)
+returns c = zeroed-all _ _ _ (c .before .loop .inv) (c .loop-test .left)
 
 pub clear-spec : {M : Type 1} → statement M
 clear-spec =

@@ -1,23 +1,19 @@
 -- `reader::clear` meets its contract. The loop's invariant: the first i bytes are zero, and the rest is as it was. Assumes nothing.
-use mathlib.Core.Path.{_≡_, refl, ap, _∙_}
-use mathlib.Core.List.{List, _++_, append-nil}
-use Prim.Native.Nat.{ℕ, _-_, _≤_}
-use native.Mathlib.Omega.{arith}
-use lib.ListN.{length, set, drop, replicate, length-set}
-use lib.Seq.{drop-length}
+use Prim.Native.Nat.{_-_}
+use lib.ListN.{length}
 use borrow.Author.Needs.{needs}
-use borrow.Author.Fill.{fill-more}
+use Rattle.reading.proofs.Zeros.{Zeroed, zeroed-none, zeroed-next, zeroed-all}
 use Rattle.reader.proofs.clear.Statement.{statement}
 use Rattle.reader.proofs.clear.Tie as tie
 
 abbrev Inv-loop : tie.InvT-loop
-Inv-loop out₀ i₀ out i = (i ≤ length out₀) × (length out ≡ length out₀) × (out ≡ replicate i 0 ++ drop i out₀)
+Inv-loop out₀ i₀ out i = Zeroed out₀ i out
 
 abbrev μ-loop : tie.MeasureT-loop
 μ-loop out₀ i₀ out i = length out₀ - i
 
 loop-holds : tie.Need-loop-holds Inv-loop μ-loop
-loop-holds c = (search needs, refl, refl)
+loop-holds c = zeroed-none _
 
 slice-write-out : tie.Need-slice-write-out Inv-loop μ-loop
 slice-write-out c = search needs
@@ -29,21 +25,13 @@ loop-less : tie.Need-loop-less Inv-loop μ-loop
 loop-less c = search needs
 
 loop-again : tie.Need-loop-again Inv-loop μ-loop
-loop-again c =
-    let at-loop = c .before in
-    let i = at-loop .loop .i in (
-      search needs,
-      length-set (at-loop .loop .out) i 0 ∙ at-loop .loop .inv .1,
-      ap (λ (l : List ℕ). set l i 0) (at-loop .loop .inv .2) ∙ fill-more i 0 (at-loop .before .args .out .now) (omega arith),
-    )
+loop-again c = zeroed-next _ _ _ (c .before .loop .inv) (c .loop-test .taken)
 
 same-length : tie.Need-same-length Inv-loop μ-loop
 same-length c = search needs
 
 returns : tie.Need-returns Inv-loop μ-loop
-returns c =
-    let end : c .before .loop .i ≡ length (c .before .before .args .out .now) = omega arith in
-    c .before .loop .inv .2 ∙ rw (end, drop-length, append-nil)
+returns c = zeroed-all _ _ _ (c .before .loop .inv) (c .loop-test .left)
 
 pub clear-spec : {M : Type 1} → statement M
 clear-spec =
