@@ -138,22 +138,6 @@ pub one-end-no-body : {b e : List ℕ} → StandardBody b → LineEnd e [] → b
 one-end-no-body (StandardBody.standard [] e rest hb he l) h z = ends-once he l h z
 one-end-no-body {e = e} (StandardBody.standard (c ∷ b) d rest hb he l) h z = blank-no-end (hb .0) (end-head h [] (append-nil e ∙ sym z))
 
--- ---- a strict body has an alphabet character behind its first line end
-
-groups-head : {n : ℕ} {g : List ℕ} → Groups n g → (x : List ℕ) {c : ℕ} {y : List ℕ} → g ++ x ≡ c ∷ y → AlphabetChar c
-groups-head (Groups.four h hb hc hd) x e = subst AlphabetChar (head-eq-of-cons-eq e) h
-groups-head (Groups.three h hb hc) x e = subst AlphabetChar (head-eq-of-cons-eq e) h
-groups-head (Groups.two h hb) x e = subst AlphabetChar (head-eq-of-cons-eq e) h
-groups-head (Groups.more h hb hc hd g) x e = subst AlphabetChar (head-eq-of-cons-eq e) h
-
-strict-lines-head : {l : List ℕ} → StrictLines l → {c : ℕ} {y : List ℕ} → l ≡ c ∷ y → AlphabetChar c
-strict-lines-head (StrictLines.final n g e hg hn he) z = groups-head hg e z
-strict-lines-head (StrictLines.line [] e rest ha full he l) z = absurd (omega arith)
-strict-lines-head (StrictLines.line (a ∷ r) e rest ha full he l) z = subst AlphabetChar (head-eq-of-cons-eq z) (ha .0)
-
-pub strict-body-head : {b : List ℕ} → StrictBody b → {c : ℕ} {y : List ℕ} → b ≡ 10 ∷ c ∷ y → AlphabetChar c
-strict-body-head (StrictBody.strict e rest he l) z = strict-lines-head l (end-lf he rest z)
-
 -- ---- under strict no line is longer than 64 characters
 
 -- What stands behind the shorter of two starts of one list begins inside the longer.

@@ -20,11 +20,6 @@ outside out e h = let k : valueOf _ ≡ 64 = ap valueOf e ∙ out in omega arith
 pub pad-no-alphabet : ¬ AlphabetChar pad
 pad-no-alphabet = outside pad-outside refl
 
-pub blank-no-alphabet : {c : ℕ} → Blank c → ¬ AlphabetChar c
-unfolding valueOf placeIn alphabet
-blank-no-alphabet (inl e) = outside refl e
-blank-no-alphabet (inr e) = outside refl e
-
 pub end-no-alphabet : {c : ℕ} → (c ≡ CR) ⊎ (c ≡ LF) → ¬ AlphabetChar c
 unfolding valueOf placeIn alphabet
 end-no-alphabet (inl e) = outside refl e

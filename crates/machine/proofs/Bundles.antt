@@ -72,12 +72,6 @@ accepted-later g (c ∷ l) h = go (eqb c hyphen) refl
         }
     go false e = absurd (true≢false (sym h ∙ ap accepting (later-dies g c l (eqb-false c hyphen e))))
 
--- Where the machine lives, some later message begins.
-pub lives-later : (g : Grammar) (l : List ℕ) → (run g later l) .phase ≢ Dead → Begins (LaterParse g) l
-lives-later g l n =
-    let b = lives-ends g later (omega arith) l n in
-    record { rest = b .rest; whole = accepted-later g (l ++ b .rest) (b .whole) }
-
 -- A later message is read as if it were the first.
 pub later-same : (g : Grammar) (r : Reading) → Later g r → run g later (textOf r) ≡ run g (start g) (textOf r)
 later-same g r h = rw (h .noneBefore) (later-run g (drop 1 (opening (r .openingLabel) ++ (r .body ++ (closing (r .closingLabel) ++ r .after)))))
