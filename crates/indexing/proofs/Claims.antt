@@ -8,7 +8,7 @@ use lib.ListN.{length, replicate}
 use native.Mathlib.Omega.{arith}
 use borrow.Author.Tests.{ltb-true, ltb-false}
 use Rattle.base64.specs.Lists.{All}
-use Rattle.base64.proofs.Lists.{all-front}
+use Rattle.base64.proofs.Lists.{all-front, all-imp, all-map}
 use Rattle.grammar.specs.Grammars.{grammarOf}
 use Rattle.grammar.specs.Message.{Reading, Consistent}
 use Rattle.grammar.specs.Bundle.{joinedText, Shapes, Item, itemOf, tableOf}
@@ -22,6 +22,7 @@ use Rattle.reading.specs.Meaning as rows
 use Rattle.reading.specs.Meaning.{labelStart, Sound}
 use Rattle.reading.specs.declared.Refusal.{Refusal}
 use Rattle.reading.specs.declared.Refusal.the-variants.{UnknownGrammar, TextTooLong, BadOpening, BadBody, BadClosing, LabelTooLong, LabelsDiffer, BadCounts, SpareBits}
+use Rattle.reading.proofs.Whole.{front-same}
 use Rattle.indexing.specs.Answers.{sizeFor, tableSize, numberOf, sizeOf}
 use Rattle.indexing.specs.Meaning as meaning
 use Rattle.indexing.specs.Meaning.{Whole, AllWhole, Passed, Indexes}
@@ -31,7 +32,6 @@ use Rattle.indexing.specs.declared.IndexAnswer.{IndexAnswer}
 use Rattle.indexing.specs.declared.IndexAnswer.the-variants as answer
 use Rattle.indexing.proofs.Entries.{table-size}
 use Rattle.indexing.proofs.Whole.{unextended-end, unextended-all-whole}
-use Rattle.indexing.proofs.Steps.{front-same}
 use Rattle.indexing.proofs.Meaning.{index-means, indexes-index}
 
 -- ---- Alike
@@ -140,14 +140,6 @@ labels-short : (rs : List Reading) → All (λ (i : Item). length (i .label) ≤
 labels-short [] h = tt
 labels-short (r ∷ rs) h = (h .0, labels-short rs (h .1))
 
-items-short : (g : Grammar) (rs : List Reading) → All (Sound g) rs → All (λ (i : Item). length (i .label) ≤ labelLimit) (map itemOf rs)
-items-short g [] h = tt
-items-short g (r ∷ rs) h = (h .0 .shortLabel, items-short g rs (h .1))
-
-consistents : (g : Grammar) (rs : List Reading) → All (Sound g) rs → All (Consistent g) rs
-consistents g [] h = tt
-consistents g (r ∷ rs) h = (h .0 .consistent, consistents g rs (h .1))
-
 -- Messages that passed, with room, are indexed with their table,
 passed-zero : (text : List ℕ) (number room : ℕ) (g : Grammar) (rs : List Reading) → Passed text number g rs → sizeFor (length rs) ≤ room
     → AnswersZero text number room (tableOf rs)
@@ -207,11 +199,11 @@ zero-exactly = record { only = only; always = always; some = some }
                 readings = i .readings;
                 joined = i .passed .joined;
                 shapes = i .passed .shapes;
-                consistent = consistents (i .grammar) (i .readings) (i .passed .sound);
+                consistent = all-imp (Sound (i .grammar)) (Consistent (i .grammar)) (λ r s. s .consistent) (i .readings) (i .passed .sound);
                 hasList = refl;
                 hasTable = e;
               };
-          shortLabels = items-short (i .grammar) (i .readings) (i .passed .sound);
+          shortLabels = all-map itemOf (Sound (i .grammar)) (λ (j : Item). length (j .label) ≤ labelLimit) (λ r s. s .shortLabel) (i .readings) (i .passed .sound);
           short = i .passed .admitted .short;
           fits = omega (arith, ap length e ∙ table-size (i .readings), i .fits);
         }

@@ -38,9 +38,9 @@ entries-more from (s ∷ rs) r =
     ap (λ l. entryAt from s ∷ l) (entries-more (from + length (textOf s)) rs r ∙ ap (λ k. entriesAt (from + length (textOf s)) rs ++ (entryAt k r ∷ [])) n)
 
 -- A message has five numbers, so the table has the size that the count asks for.
+pub numbers-length : (es : List Entry) → length (numbersOfAll es) ≡ entryNumbers * length es
+numbers-length [] = refl
+numbers-length (e ∷ es) = omega (arith, numbers-length es)
+
 pub table-size : (rs : List Reading) → length (tableOf rs) ≡ sizeFor (length rs)
-table-size rs = omega (arith, entries-size 0 rs)
-  where
-    entries-size : (from : ℕ) (rs : List Reading) → length (entriesFrom from rs) ≡ entryNumbers * length rs
-    entries-size from [] = refl
-    entries-size from (r ∷ rs) = omega (arith, entries-size (from + length (textOf r)) rs)
+table-size rs = omega (arith, ap length (entries-numbers 0 rs), numbers-length (entriesAt 0 rs), entries-length 0 rs)

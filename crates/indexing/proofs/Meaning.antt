@@ -45,6 +45,7 @@ use Rattle.indexing.specs.Index.{judgedMessage, Walk, all, fault, onward
 use Rattle.indexing.specs.declared.IndexAnswer.{IndexAnswer}
 use Rattle.indexing.specs.declared.IndexAnswer.the-variants as answer
 use Rattle.indexing.proofs.Entries.{entriesAt, entries-length, entries-numbers, entries-more}
+use Rattle.indexing.proofs.Turns.{walk-on, walk-end}
 use Rattle.indexing.proofs.Whole.{whole-stops, stops-whole, all-whole-unextended, unextended-all-whole, unextended-end}
 use Rattle.indexing.proofs.Steps.{scanBehind, WholeScan, whole-scan, NextWhole, next-whole, behind-run, next-broken}
 
@@ -59,19 +60,16 @@ scan-here g text rs rest e =
     ap (scanOf g (startBehind g rs) 0 noTally) (ap (drop (length (joinedText rs))) e ∙ drop-at (joinedText rs) rest (length (joinedText rs)) refl)
 
 -- At the end of the text all messages are found.
-walk-end : (most : ℕ) (g : Grammar) (text : List ℕ) (rs : List Reading) → text ≡ joinedText rs → walkBehind most g text rs ≡ all (entriesAt 0 rs)
-walk-end zero g text rs e = refl
-walk-end (suc most) g text rs e = rw (le-ltb (length (joinedText rs)) (length text) (omega (arith, ap length e)))
+walk-all : (most : ℕ) (g : Grammar) (text : List ℕ) (rs : List Reading) → text ≡ joinedText rs → walkBehind most g text rs ≡ all (entriesAt 0 rs)
+walk-all most g text rs e = walk-end most g text (length (joinedText rs)) (startBehind g rs) (entriesAt 0 rs) (omega (arith, ap length e))
 
 -- A message is not empty.
 text-long : (r : Reading) → 0 < length (textOf r)
 text-long r = omega (arith, text-length r, opening-length (r .openingLabel))
 
 -- Where something stands behind the messages, the text goes on.
-goes-on : (text : List ℕ) (rs : List Reading) (rest : List ℕ) → text ≡ joinedText rs ++ rest → 0 < length rest
-    → ltb (length (joinedText rs)) (length text) ≡ true
-goes-on text rs rest e h =
-    lt-ltb (length (joinedText rs)) (length text) (omega (arith, ap length e ∙ length-append (joinedText rs) rest))
+goes-on : (text : List ℕ) (rs : List Reading) (rest : List ℕ) → text ≡ joinedText rs ++ rest → 0 < length rest → length (joinedText rs) < length text
+goes-on text rs rest e h = omega (arith, ap length e ∙ length-append (joinedText rs) rest)
 
 -- A whole message is judged, whatever stands around it.
 whole-judged : (g : Grammar) (text : List ℕ) (rs : List Reading) (r : Reading) (x : List ℕ) → text ≡ joinedText rs ++ (textOf r ++ x)
@@ -93,7 +91,10 @@ walk-whole : (most : ℕ) (g : Grammar) (text : List ℕ) (rs : List Reading) (r
     → walkBehind (suc most) g text rs ≡ stepped most g text rs r (judgedReading g (length (joinedText rs)) r)
 walk-whole most g text rs r x e m h =
     let some : 0 < length (textOf r ++ x) = omega (arith, length-append (textOf r) x, text-long r) in
-    rw (goes-on text rs (textOf r ++ x) e some, scan-here g text rs (textOf r ++ x) e, whole-judged g text rs r x e m h, whole-scan g rs r x m h .ends)
+    let here = scan-here g text rs (textOf r ++ x) e in
+    walk-on most g text (length (joinedText rs)) (startBehind g rs) (entriesAt 0 rs) (goes-on text rs (textOf r ++ x) e some) _
+    (ap (judgedMessage g text (length (joinedText rs))) here ∙ whole-judged g text rs r x e m h)
+    ∙ rw (here, whole-scan g rs r x m h .ends)
 
 -- Behind a message that passed, the walk goes on.
 behind-more : (g : Grammar) (rs : List Reading) (r : Reading) → later ≡ startBehind g (rs ++ (r ∷ []))
@@ -113,7 +114,11 @@ walk-broken : (most : ℕ) (g : Grammar) (text : List ℕ) (rs : List Reading) (
     → accepting ((scanBehind g rs rest) .phase) ≡ false
     → walkBehind (suc most) g text rs
     ≡ fault (grammarRefusal (partOf ((scanBehind g rs rest) .phase)) (length (joinedText rs) + (scanBehind g rs rest) .length))
-walk-broken most g text rs rest e some a = rw (goes-on text rs rest e some, scan-here g text rs rest e, a)
+walk-broken most g text rs rest e some a =
+    let refused = judgement.Refused (grammarRefusal (partOf ((scanBehind g rs rest) .phase)) (length (joinedText rs) + (scanBehind g rs rest) .length)) in
+    let judged : judgedMessage g text (length (joinedText rs)) (scanBehind g rs rest) ≡ refused = rw a in
+    walk-on most g text (length (joinedText rs)) (startBehind g rs) (entriesAt 0 rs) (goes-on text rs rest e some) refused
+    (ap (judgedMessage g text (length (joinedText rs))) (scan-here g text rs rest e) ∙ judged)
 
 -- ---- What a walk means
 
@@ -141,7 +146,7 @@ walk-means : (text : List ℕ) (number : ℕ) (g : Grammar) (most : ℕ) (rs : L
 walk-means text number g zero rs [] h j = passed g rs (judged-end text number g rs j)
 walk-means text number g zero rs (c ∷ rest) h j = absurd (omega arith)
 walk-means text number g (suc most) rs [] h j =
-    rw (walk-end (suc most) g text rs (judged-end text number g rs j .joined)) (passed g rs (judged-end text number g rs j))
+    rw (walk-all (suc most) g text rs (judged-end text number g rs j .joined)) (passed g rs (judged-end text number g rs j))
 walk-means text number g (suc most) rs (c ∷ l) h j =
     go (accepting ((scanBehind g rs (c ∷ l)) .phase)) refl (λ qs x. walk-means text number g most qs x)
   where
@@ -242,7 +247,7 @@ passed-walk text number g rs p =
       sound = p .sound;
     } in
     let o = judged-over text number g rs [] j in
-    o .same ∙ walk-end (o .most) g text rs (p .joined)
+    o .same ∙ walk-all (o .most) g text rs (p .joined)
 
 -- Something has a byte.
 some-bytes : (l : List ℕ) → l ≢ [] → 0 < length l

@@ -6,7 +6,7 @@ use mathlib.Core.List.{List, [], _∷_, _++_, append-nil}
 use Prim.Native.Nat.{ℕ, suc, _+_, _-_, _≤_}
 use lib.Dec.{ltb}
 use lib.ListN.{length, take, drop, getD, length-append, length-take, take-append-drop, drop-of-length-le}
-use lib.Seq.{take-at, take-all, take-length, take-suc, drop-cons, take-append-seam}
+use lib.Seq.{take-all, take-length, take-suc, drop-cons}
 use native.Mathlib.Omega.{arith}
 use borrow.Author.Tests.{ltb-true, ltb-false}
 use Rattle.base64.proofs.Lists.{all-back}
@@ -27,7 +27,7 @@ use Rattle.reading.specs.Scan.{noTally, scanOf}
 use Rattle.reading.specs.declared.Scan.{Scan}
 use Rattle.reading.proofs.Judgements.{Tells}
 use Rattle.reading.proofs.Tallies.{tallyOf, Stops, scan-stops}
-use Rattle.reading.proofs.Whole.{scanned, MessageRead, message-read, start-live, live-not-dead, reached-phase, not-dead, scan-tells}
+use Rattle.reading.proofs.Whole.{scanned, front-same, MessageRead, message-read, start-live, live-not-dead, reached-phase, not-dead, scan-tells}
 use Rattle.reading.proofs.Meaning.{longest-unique}
 use Rattle.indexing.specs.Index.{StartState}
 use Rattle.indexing.proofs.Scans.{NextScan, same, nothing, next-scan, accepting-scan}
@@ -75,10 +75,6 @@ pub record WholeScan (g : Grammar) (rs : List Reading) (r : Reading) (x : List �
   pub accepts : accepting ((scanBehind g rs (textOf r ++ x)) .phase) ≡ true
   pub ends : (scanBehind g rs (textOf r ++ x)) .length ≡ length (textOf r)
   pub counted : (scanBehind g rs (textOf r ++ x)) .tally ≡ tallyOf r
-
--- Fronts of one length are the same.
-pub front-same : (a b c d : List ℕ) → a ++ b ≡ c ++ d → length a ≡ length c → a ≡ c
-front-same a b c d e n = sym (take-append-seam a b) ∙ ap (take (length a)) e ∙ take-at c d (length a) (sym n)
 
 pub whole-scan : (g : Grammar) (rs : List Reading) (r : Reading) (x : List ℕ) → Shapes g (rs ++ (r ∷ []))
     → bundles.Stops g (run g (start g) (textOf r)) x → WholeScan g rs r x

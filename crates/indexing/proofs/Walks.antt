@@ -10,7 +10,7 @@ use lib.ListN.{length, take, drop, replicate, length-append, length-replicate}
 use lib.Seq.{take-append-seam, drop-append-add}
 use native.Mathlib.Nat.{sub-zero, suc-sub-suc}
 use native.Mathlib.Omega.{arith}
-use borrow.Author.Tests.{ltb-true, ltb-false, lt-ltb, le-ltb}
+use borrow.Author.Tests.{ltb-true, ltb-false}
 use Rattle.base64.specs.declared.ByteCount.{ByteCount}
 use Rattle.grammar.specs.Grammars.{grammarOf}
 use Rattle.grammar.specs.declared.Grammar.{Grammar}
@@ -33,6 +33,8 @@ use Rattle.indexing.specs.Index.{numbersOf, numbersOfAll, Holdable, ente
 use Rattle.indexing.specs.declared.Entry.{Entry}
 use Rattle.indexing.specs.declared.Survey.the-variants as survey
 use Rattle.indexing.proofs.Scans.{MessageFits, message-fits}
+use Rattle.indexing.proofs.Entries.{numbers-length}
+use Rattle.indexing.proofs.Turns.{walk-on, walk-end}
 
 -- ---- What a judgement that passed tells
 
@@ -81,10 +83,6 @@ sound-holdable g text from first i w h l size e =
     rw (s .laid, s .sized) (omega (arith, m))
 
 -- ---- The numbers of messages
-
-numbers-length : (es : List Entry) → length (numbersOfAll es) ≡ entryNumbers * length es
-numbers-length [] = refl
-numbers-length (e ∷ es) = omega (arith, numbers-length es)
 
 numbers-snoc : (es : List Entry) (e : Entry) → numbersOfAll (es ++ (e ∷ [])) ≡ numbersOfAll es ++ numbersOf e
 numbers-snoc [] e = refl
@@ -167,19 +165,14 @@ reached-start g text table z =
       filled = filled-start table z;
     }
 
--- From an offset within the text the walk goes by the judgement of the next message, and behind the text it ends.
-walk-on : (most : ℕ) (g : Grammar) (text : List ℕ) (at : ℕ) (first : State) (es : List Entry) → at < length text → length text ≤ at + most → (j : Judgement)
-    → judgedMessage g text at (scanFrom g text at first) ≡ j
-    → walk most g text at first es
-    ≡ onward j at ((scanFrom g text at first) .length) (λ e. walk (most - 1) g text (at + (scanFrom g text at first) .length) later (es ++ (e ∷ [])))
-walk-on zero g text at first es h n j e = absurd (omega arith)
-walk-on (suc most) g text at first es h n j e =
-    let p : suc most - 1 ≡ most = omega arith in
-    rw (lt-ltb at (length text) h, e, p)
-
-walk-end : (most : ℕ) (g : Grammar) (text : List ℕ) (at : ℕ) (first : State) (es : List Entry) → length text ≤ at → walk most g text at first es ≡ all es
-walk-end zero g text at first es h = refl
-walk-end (suc most) g text at first es h = rw (le-ltb at (length text) h)
+-- Within the text the bound of the walk is not reached, so it goes by the judgement of the next message.
+reached-on : {g : Grammar} {text : List ℕ} {first : State} {at count : ℕ} {table : List ℕ} (r : Reached g text first at count table) → at < length text
+    → (j : Judgement) → judgedMessage g text at (scanFrom g text at first) ≡ j
+    → walkOf g text
+    ≡ onward j at ((scanFrom g text at first) .length) (λ e. walk (r .most - 1) g text (at + (scanFrom g text at first) .length) later (r .entries ++ (e ∷ [])))
+reached-on {g} {text} {first} {at} r h j e =
+    let m : r .most ≡ suc (r .most - 1) = omega (arith, r .enough) in
+    sym (r .ahead) ∙ ap (λ k. walk k g text at first (r .entries)) m ∙ walk-on (r .most - 1) g text at first (r .entries) h j e
 
 -- A message that passed is entered, and the walk goes on behind it.
 pub reached-next : {g : Grammar} {text : List ℕ} {first : State} {at count : ℕ} {table : List ℕ} → Reached g text first at count table → at < length text
@@ -192,7 +185,7 @@ reached-next {g} {text} {first} {at} {count} {table} r h l size e =
     record {
       entries = r .entries ++ (k ∷ []);
       most = r .most - 1;
-      ahead = sym (walk-on (r .most) g text at first (r .entries) h (r .enough) _ e) ∙ r .ahead;
+      ahead = sym (reached-on r h _ e);
       enough = omega (arith, m .some, r .enough);
       counted = omega (arith, r .counted, length-append (r .entries) (k ∷ []));
       few = omega (arith, m .some, r .few);
@@ -206,7 +199,7 @@ pub reached-refused : {g : Grammar} {text : List ℕ} {first : State} {at count 
     → (r : Refusal) → judgedMessage g text at (scanFrom g text at first) ≡ judgement.Refused r → (t : List ℕ)
     → (survey.Refused r ≡ surveyed (walkOf g text)) × Filled (walkOf g text) t
 reached-refused {g} {text} {first} {at} k h r e t =
-    let w : walkOf g text ≡ fault r = sym (k .ahead) ∙ walk-on (k .most) g text at first (k .entries) h (k .enough) _ e in
+    let w : walkOf g text ≡ fault r = reached-on k h _ e in
     rw w (refl, tt)
 
 -- Behind the text there is no message left.

@@ -44,7 +44,8 @@ pub record Indexable (text : List ℕ) (number room : ℕ) (table : List ℕ) : 
   pub short : length text ≤ textLimit
   pub fits : length table ≤ room
 
--- The second follows from the first and the first from the second; and where the number is 0, there is such a table.
+-- It answers 0 with a table only where the text is indexable with it, and always there; and where it answers 0, it is with a
+-- table.
 pub record ZeroExactly : Type 0 where
   pub only : (text : List ℕ) (number room : ℕ) (table : List ℕ) → AnswersZero text number room table → Indexable text number room table
   pub always : (text : List ℕ) (number room : ℕ) (table : List ℕ) → Indexable text number room table → AnswersZero text number room table

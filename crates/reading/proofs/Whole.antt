@@ -3,10 +3,11 @@
 use mathlib.Core.Path.{_≡_, refl, sym, ap, _∙_}
 use mathlib.Core.Logic.{_≢_}
 use mathlib.Core.Bool.{Bool, true, false, cond, true≢false}
-use mathlib.Core.List.{List, [], _∷_, _++_, append-nil}
+use mathlib.Core.List.{List, [], _++_, append-nil}
 use Prim.Native.Nat.{ℕ, _+_, _≤_}
 use lib.Dec.{eqb}
-use lib.ListN.{length, take, drop, length-append, length-take, take-append-drop}
+use lib.ListN.{length, take, drop, length-take, take-append-drop}
+use lib.Seq.{take-at, take-append-seam}
 use native.Mathlib.Omega.{arith}
 use borrow.Author.Tests.{eqb-true, eq-eqb}
 use Rattle.grammar.specs.Message.{Reading, textOf, Shape}
@@ -89,10 +90,9 @@ pub record WholeReading (g : Grammar) (text : List ℕ) : Type 0 where
   pub shape : Shape g reading
   pub counted : (scanned g text) .tally ≡ tallyOf reading
 
--- A list that is as long as its front is its front.
-front-whole : (l a b : List ℕ) → l ≡ a ++ b → length l ≡ length a → l ≡ a
-front-whole l a [] e n = e ∙ append-nil a
-front-whole l a (c ∷ b) e n = absurd (omega (arith, length-append a (c ∷ b), ap length e))
+-- Fronts of one length are the same.
+pub front-same : (a b c d : List ℕ) → a ++ b ≡ c ++ d → length a ≡ length c → a ≡ c
+front-same a b c d e n = sym (take-append-seam a b) ∙ ap (take (length a)) e ∙ take-at c d (length a) (sym n)
 
 -- A whole scan has read the text, and it is one message.
 pub whole-reading : (g : Grammar) (text : List ℕ) → isWhole (scanned g text) (length text) ≡ true → WholeReading g text
@@ -101,7 +101,9 @@ whole-reading g text e =
     let m : MessageRead g text = message-read g text (w .1) in
     record {
       reading = m .reading;
-      joined = front-whole text (textOf (m .reading)) (m .rest) (m .joined) (sym (eqb-true ((scanned g text) .length) (length text) (w .0)) ∙ m .ends);
+      joined =
+          front-same text [] (textOf (m .reading)) (m .rest) (append-nil text ∙ m .joined)
+          (sym (eqb-true ((scanned g text) .length) (length text) (w .0)) ∙ m .ends);
       shape = m .shape;
       counted = m .counted;
     }
