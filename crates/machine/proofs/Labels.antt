@@ -1,8 +1,8 @@
--- The machine in a label and the five hyphens behind it. Assumes nothing.
-use mathlib.Core.Path.{_≡_, refl, ap, _∙_}
+-- The machine in a label and the five hyphens behind it, and the test of a label by itself. Assumes nothing.
+use mathlib.Core.Path.{_≡_, refl, ap, subst, _∙_}
 use mathlib.Core.Logic.{_⊎_, inl, inr}
-use mathlib.Core.Bool.{false}
-use mathlib.Core.List.{List, [], _∷_, _++_}
+use mathlib.Core.Bool.{true, false, false≢true}
+use mathlib.Core.List.{List, [], _∷_, _++_, append-cancel-right}
 use Prim.Native.Nat.{ℕ}
 use lib.Dec.{eqb}
 use native.Mathlib.Omega.{arith}
@@ -10,7 +10,7 @@ use Rattle.base64.specs.Alphabet.{pad}
 use Rattle.grammar.specs.Marks.{CR, SP, hyphen, hyphens, LabelChar, Separator, LabelChars, last, next, separated, Label, empty, chars}
 use Rattle.grammar.specs.declared.Grammar.{Grammar}
 use Rattle.machine.proofs.ByteKinds.{kindOf}
-use Rattle.machine.proofs.Machine.{state, labelRow, labelTarget, behind, run}
+use Rattle.machine.proofs.Machine.{state, labelRow, labelTarget, labelStep, labelOnward, labelFrom, behind, run}
 use Rattle.machine.specs.declared.Boundary.{Boundary}
 use Rattle.machine.specs.declared.LabelPhase.{LabelPhase}
 use Rattle.machine.specs.declared.LabelPhase.the-variants.{Start, Char, Space, Hyphen, One, Two, Three, Four}
@@ -127,12 +127,11 @@ label-no-cr r c = go (view c)
     go (mark {c} k s) = no-cr-any (labelTarget r (kindOf c)) c (s .no-cr)
     go (other {c} k s) = no-cr-any (labelTarget r (kindOf c)) c (s .no-cr)
 
--- A character takes the way for characters.
-char-moves : (g : Grammar) (b : Boundary) (p : LabelPhase) (c : ℕ) (x : List ℕ) → LabelChar c → (labelRow p) .char ≡ To Char
-    → run g (state (phase.Label b p) false) (c ∷ x) ≡ run g (state (phase.Label b Char) false) x
-char-moves g b p c x h e = go (view c) h
+-- A character takes the way for characters, and is no CR.
+char-seen : {c : ℕ} → LabelChar c → (r : LabelRow) → (labelTarget r (kindOf c) ≡ r .char) × (eqb c CR ≡ false)
+char-seen {c} h r = go (view c) h
   where
-    go : {c : ℕ} → View c → LabelChar c → run g (state (phase.Label b p) false) (c ∷ x) ≡ run g (state (phase.Label b Char) false) x
+    go : {c : ℕ} → View c → LabelChar c → (labelTarget r (kindOf c) ≡ r .char) × (eqb c CR ≡ false)
     go tab (inl l) = absurd (omega arith)
     go tab (inr l) = absurd (omega arith)
     go space (inl l) = absurd (omega arith)
@@ -147,10 +146,16 @@ char-moves g b p c x h e = go (view c) h
     go ff (inr l) = absurd (omega arith)
     go dash (inl l) = absurd (omega arith)
     go dash (inr l) = absurd (omega arith)
-    go equals l = rw e
-    go (char a k s) l = rw (s .kind, s .no-cr, e)
-    go (mark k s) l = rw (s .kind, s .no-cr, e)
+    go equals l = (refl, refl)
+    go (char a k s) l = (rw (s .kind), s .no-cr)
+    go (mark k s) l = (rw (s .kind), s .no-cr)
     go (other k s) l = absurd (k l)
+
+char-moves : (g : Grammar) (b : Boundary) (p : LabelPhase) (c : ℕ) (x : List ℕ) → LabelChar c → (labelRow p) .char ≡ To Char
+    → run g (state (phase.Label b p) false) (c ∷ x) ≡ run g (state (phase.Label b Char) false) x
+char-moves g b p c x h e =
+    let seen = char-seen h (labelRow p) in
+    rw (seen .0, seen .1, e)
 
 chars-run : (g : Grammar) (b : Boundary) (p : LabelPhase) → (labelRow p) .char ≡ To Char → {l : List ℕ} → LabelChars l → (x : List ℕ)
     → run g (state (phase.Label b p) false) (l ++ (hyphens ++ x)) ≡ run g (state (behind g b) false) x
@@ -164,3 +169,45 @@ pub label-run : (g : Grammar) (b : Boundary) {l : List ℕ} → Label l → (x :
     → run g (state (phase.Label b Start) false) (l ++ (hyphens ++ x)) ≡ run g (state (behind g b) false) x
 label-run g b empty x = refl
 label-run g b (chars v) x = chars-run g b Start refl v x
+
+-- ---- the label test: it passes exactly the labels
+
+test-before : (p : LabelPhase) (l : List ℕ) → labelFrom p l ≡ true → LabelRest p (l ++ hyphens)
+unfolding labelFrom
+test-before Start [] e = ended [] empty
+test-before Char [] e = ended [] none
+test-before Space [] e = absurd (false≢true e)
+test-before Hyphen [] e = absurd (false≢true e)
+test-before One [] e = absurd (false≢true e)
+test-before Two [] e = absurd (false≢true e)
+test-before Three [] e = absurd (false≢true e)
+test-before Four [] e = absurd (false≢true e)
+test-before p (c ∷ l) e = label-before p c (l ++ hyphens) (go (labelStep p c) (λ m. test-before m l) e)
+  where
+    go : (t : LabelTarget) → ((m : LabelPhase) → labelFrom m l ≡ true → LabelRest m (l ++ hyphens))
+        → labelOnward t (λ m. labelFrom m l) ≡ true → TargetRest t (l ++ hyphens)
+    go (To m) later k = later m k
+    go Whole later k = absurd (false≢true k)
+    go Refused later k = absurd (false≢true k)
+
+ended-label : (l x : List ℕ) → Ended Label x → x ≡ l ++ hyphens → Label l
+ended-label l x (ended m h) e = subst Label (append-cancel-right m l hyphens e) h
+
+pub test-label : (l : List ℕ) → labelFrom Start l ≡ true → Label l
+test-label l e = ended-label l (l ++ hyphens) (test-before Start l e) refl
+
+char-tested : (p : LabelPhase) (c : ℕ) (l : List ℕ) → LabelChar c → (labelRow p) .char ≡ To Char → labelFrom p (c ∷ l) ≡ labelFrom Char l
+unfolding labelFrom
+char-tested p c l h e = rw (char-seen h (labelRow p) .0, e)
+
+chars-tested : (p : LabelPhase) → (labelRow p) .char ≡ To Char → {l : List ℕ} → LabelChars l → labelFrom p l ≡ true
+unfolding labelFrom
+chars-tested p e (last {c} h) = char-tested p c [] h e
+chars-tested p e (next {c} {l} h v) = char-tested p c l h e ∙ chars-tested Char refl v
+chars-tested p e (separated {c} {s} {l} h (inl q) v) = char-tested p c (s ∷ l) h e ∙ rw q (chars-tested Hyphen refl v)
+chars-tested p e (separated {c} {s} {l} h (inr q) v) = char-tested p c (s ∷ l) h e ∙ rw q (chars-tested Space refl v)
+
+pub label-test : {l : List ℕ} → Label l → labelFrom Start l ≡ true
+unfolding labelFrom
+label-test empty = refl
+label-test (chars v) = chars-tested Start refl v

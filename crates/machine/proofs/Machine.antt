@@ -72,6 +72,31 @@ labelTarget r kind.Pad = r .char
 labelTarget r kind.Mark = r .char
 labelTarget r kind.Other = Refused
 
+-- Where a byte takes a label.
+abbrev pub labelStep : LabelPhase → ℕ → LabelTarget
+labelStep l c = labelTarget (labelRow l) (kindOf c)
+
+-- A label may end here.
+abbrev pub labelEnds : LabelPhase → Bool
+labelEnds Start = true
+labelEnds Char = true
+labelEnds Space = false
+labelEnds Hyphen = false
+labelEnds One = false
+labelEnds Two = false
+labelEnds Three = false
+labelEnds Four = false
+
+abbrev pub labelOnward : LabelTarget → (LabelPhase → Bool) → Bool
+labelOnward (To l) onward = onward l
+labelOnward Whole onward = false
+labelOnward Refused onward = false
+
+-- The bytes are what may still come of a label, without its hyphens.
+unfoldable pub labelFrom : LabelPhase → List ℕ → Bool
+labelFrom l [] = labelEnds l
+labelFrom l (c ∷ cs) = labelOnward (labelStep l c) (λ m. labelFrom m cs)
+
 -- The phase right behind a boundary.
 abbrev pub behind : Grammar → Boundary → Phase
 behind grammar.Lax Opening = Lax lax.Data
@@ -165,7 +190,7 @@ beforeStep kind.Other = Dead
 abbrev pub next : Grammar → Phase → ℕ → Phase
 next g Before c = beforeStep (kindOf c)
 next g (Word b n) c = wordStep b n c
-next g (Label b l) c = labelled g b (labelTarget (labelRow l) (kindOf c))
+next g (Label b l) c = labelled g b (labelStep l c)
 next g (Lax p) c = target (laxRow p) (kindOf c)
 next g (Standard p) c = target (standardRow p) (kindOf c)
 next g (Strict p) c = target (strictRow p) (kindOf c)
