@@ -147,7 +147,7 @@ shorter-start P g x [] y ha short e = absurd (omega arith)
 shorter-start P [] x (c ∷ a) y ha short e = (c, a ++ y, ha .0, e)
 shorter-start P (d ∷ g) x (c ∷ a) y ha short e = shorter-start P g x a y (ha .1) (omega arith) (tail-eq-of-cons-eq e)
 
-groups-length : {n : ℕ} {g : List ℕ} → Groups n g → length g ≡ 4 * n
+pub groups-length : {n : ℕ} {g : List ℕ} → Groups n g → length g ≡ 4 * n
 groups-length (Groups.four ha hb hc hd) = refl
 groups-length (Groups.three ha hb hc) = refl
 groups-length (Groups.two ha hb) = refl

@@ -52,11 +52,22 @@ message-widens w m = record {
   hasData = m .hasData;
 }
 
+-- Strict is the narrowest.
+pub strict-shape : (g : Grammar) (r : Reading) → Shape Strict r → Shape g r
+strict-shape Lax r s = shape-widens standard-lax r (shape-widens strict-standard r s)
+strict-shape Standard r s = shape-widens strict-standard r s
+strict-shape Strict r s = s
+
+pub strict-consistent : (g : Grammar) (r : Reading) → Consistent Strict r → Consistent g r
+strict-consistent Lax r c = consistent-widens standard-lax r (consistent-widens strict-standard r c)
+strict-consistent Standard r c = consistent-widens strict-standard r c
+strict-consistent Strict r c = c
+
 -- Lax is the widest.
 pub shape-lax : (g : Grammar) (r : Reading) → Shape g r → Shape Lax r
 shape-lax Lax r s = s
 shape-lax Standard r s = shape-widens standard-lax r s
-shape-lax Strict r s = shape-widens standard-lax r (shape-widens strict-standard r s)
+shape-lax Strict r s = strict-shape Lax r s
 
 -- ---- uniqueness: a message and what stands behind it, cut in one way only
 

@@ -16,13 +16,13 @@ use Rattle.grammar.specs.declared.Grammar.{Grammar}
 use Rattle.grammar.specs.declared.Numbered.the-variants.{Known}
 use Rattle.grammar.proofs.Bundle.{front-shapes, readings-unique}
 use Rattle.machine.proofs.Bundles.{joined-append}
-use Rattle.reading.specs.Answers.{offset, refusalNumber}
+use Rattle.reading.specs.Answers.{offset}
 use Rattle.reading.specs.Limits.{textLimit, labelLimit}
 use Rattle.reading.specs.Meaning as rows
 use Rattle.reading.specs.Meaning.{labelStart, Sound}
-use Rattle.reading.specs.declared.Refusal.{Refusal}
-use Rattle.reading.specs.declared.Refusal.the-variants.{UnknownGrammar, TextTooLong, BadOpening, BadBody, BadClosing, LabelTooLong, LabelsDiffer, BadCounts, SpareBits}
+use Rattle.reading.specs.declared.Refusal.the-variants.{TextTooLong, LabelTooLong}
 use Rattle.reading.proofs.Whole.{front-same}
+use Rattle.reading.proofs.Results.{refusal-some}
 use Rattle.indexing.specs.Answers.{sizeFor, tableSize, numberOf, sizeOf}
 use Rattle.indexing.specs.Meaning as meaning
 use Rattle.indexing.specs.Meaning.{Whole, AllWhole, Passed, Indexes}
@@ -157,17 +157,6 @@ record Indexed (text : List ℕ) (number room : ℕ) : Type 0 where
   readings : List Reading
   passed : Passed text number grammar readings
   fits : sizeFor (length readings) ≤ room
-
-refusal-some : (r : Refusal) → ¬ (refusalNumber r ≡ 0)
-refusal-some UnknownGrammar e = omega (arith, e)
-refusal-some TextTooLong e = omega (arith, e)
-refusal-some (BadOpening at) e = omega (arith, e)
-refusal-some (BadBody at) e = omega (arith, e)
-refusal-some (BadClosing at) e = omega (arith, e)
-refusal-some (LabelTooLong at) e = omega (arith, e)
-refusal-some (LabelsDiffer at) e = omega (arith, e)
-refusal-some (BadCounts at) e = omega (arith, e)
-refusal-some (SpareBits at) e = omega (arith, e)
 
 zero-indexed : (text : List ℕ) (number room : ℕ) → numberOf (indexOf text number room) ≡ 0 → Indexed text number room
 zero-indexed text number room z = go (indexOf text number room) (lentTable text number room) (index-means text number room) z

@@ -7,5 +7,6 @@ pub mod Checks
 pub mod Judgements
 pub mod Whole
 pub mod Meaning
+pub mod Results
 pub mod Scans
 pub mod Samples

@@ -201,7 +201,7 @@ reads-unique text number room a b o p h k =
     (x .0 ∙ sym (y .0), x .1 ∙ sym (y .1))
 
 -- The part where the opening label stands holds it,
-label-in : (text : List ℕ) (r : Reading) → text ≡ textOf r → spanned text (readingLayout 0 r .opened) ≡ r .openingLabel
+pub label-in : (text : List ℕ) (r : Reading) → text ≡ textOf r → spanned text (readingLayout 0 r .opened) ≡ r .openingLabel
 label-in text r e = ap (λ t. spanned t (readingLayout 0 r .opened)) (alone text r e) ∙ label-part [] r []
 
 -- and that is its offset.
