@@ -1,0 +1,150 @@
+-- What the call's definition answers is what the requirements' rows say, and the rows leave one answer only. Assumes nothing.
+use mathlib.Core.Path.{_≡_, refl, sym, ap, _∙_}
+use mathlib.Core.Logic.{_≢_}
+use mathlib.Core.Bool.{Bool, true, false, cond, true≢false}
+use mathlib.Core.List.{List, [], _∷_, _++_}
+use Prim.Native.Nat.{ℕ, _-_, _≤_, _<_}
+use lib.Dec.{eqb, ltb}
+use lib.ListN.{length, replicate}
+use native.Mathlib.Omega.{arith}
+use borrow.Author.Tests.{eqb-true, eqb-false, ltb-true, ltb-false, lt-ltb, le-ltb, ne-eqb}
+use Rattle.base64.specs.Lists.{All}
+use Rattle.base64.specs.Alphabet.{Octet}
+use Rattle.grammar.specs.Marks.{Label}
+use Rattle.machine.proofs.Labels.{test-label, label-test}
+use Rattle.reading.specs.Limits.{labelLimit}
+use Rattle.writing.specs.Limits.{dataLimit}
+use Rattle.writing.specs.Answers.{textSize}
+use Rattle.writing.specs.Text.{writtenText, writtenSize}
+use Rattle.writing.specs.Meaning as rows
+use Rattle.writing.specs.Meaning.{Refuses, Takes, StrictText, Writes}
+use Rattle.writing.specs.Write.{isLabel, judgeOf, answered, writeOf, filled, writeOutput}
+use Rattle.writing.specs.declared.Judgement.{Judgement}
+use Rattle.writing.specs.declared.Judgement.the-variants as judgement
+use Rattle.writing.specs.declared.WriteAnswer.{WriteAnswer}
+use Rattle.writing.specs.declared.WriteAnswer.the-variants as answer
+use Rattle.writing.specs.declared.WriteRefusal.{WriteRefusal}
+use Rattle.writing.specs.declared.WriteRefusal.the-variants.{LabelTooLong, NotALabel, NoData, DataTooLong}
+use Rattle.writing.proofs.Text.{some-length, written-strict, strict-written, length-written}
+
+-- ---- Checks 11 to 14
+
+-- The judgement of a label and data that the writer takes.
+abbrev pub taken : List ℕ → List ℕ → Judgement
+taken label content = judgement.Taken (textSize (writtenSize (length label) (length content)))
+
+no-length : {A : Type 0} (l : List A) → length l ≡ 0 → l ≡ []
+no-length [] e = refl
+no-length (x ∷ l) e = absurd (omega arith)
+
+pub data Judged (label content : List ℕ) : Judgement → Type 0 where
+  takes : Takes label content → Judged label content (taken label content)
+  refuses : {refusal : WriteRefusal} → Refuses label content refusal → Judged label content (judgement.Refused refusal)
+
+pub judge-means : (label content : List ℕ) → Judged label content (judgeOf label content)
+judge-means label content =
+    go (ltb labelLimit (length label)) refl (isLabel label) refl (eqb (length content) 0) refl (ltb dataLimit (length content)) refl
+  where
+    go : (a : Bool) → ltb labelLimit (length label) ≡ a → (b : Bool) → isLabel label ≡ b → (c : Bool) → eqb (length content) 0 ≡ c → (d : Bool)
+        → ltb dataLimit (length content) ≡ d
+        → Judged label content (cond a (judgement.Refused LabelTooLong) (cond b (cond c (judgement.Refused NoData) (cond d (judgement.Refused DataTooLong) (taken label content))) (judgement.Refused NotALabel)))
+    go true ea b eb c ec d ed = refuses (rows.labelTooLong (ltb-true _ _ ea))
+    go false ea false eb c ec d ed = refuses (rows.notALabel (ltb-false _ _ ea) (λ h. true≢false (sym (label-test h) ∙ eb)))
+    go false ea true eb true ec d ed = refuses (rows.noData (ltb-false _ _ ea) (test-label label eb) (no-length content (eqb-true _ _ ec)))
+    go false ea true eb false ec true ed = refuses (rows.dataTooLong (ltb-false _ _ ea) (test-label label eb) (ltb-true _ _ ed))
+    go false ea true eb false ec false ed =
+        takes record {
+          shortLabel = ltb-false _ _ ea;
+          isLabel = test-label label eb;
+          someData = λ e. eqb-false (length content) 0 ec (ap length e);
+          shortData = ltb-false _ _ ed;
+        }
+
+-- Each row leaves one judgement only.
+pub takes-judge : (label content : List ℕ) → Takes label content → judgeOf label content ≡ taken label content
+takes-judge label content t =
+    let some : length content ≢ 0 = λ e. t .someData (no-length content e) in
+    rw (le-ltb labelLimit (length label) (t .shortLabel), label-test (t .isLabel), ne-eqb (length content) 0 some, le-ltb dataLimit (length content) (t .shortData))
+
+not-label : (label : List ℕ) (b : Bool) → isLabel label ≡ b → ¬ Label label → b ≡ false
+not-label label true e h = absurd (h (test-label label e))
+not-label label false e h = refl
+
+refuses-judge : (label content : List ℕ) (refusal : WriteRefusal) → Refuses label content refusal → judgeOf label content ≡ judgement.Refused refusal
+refuses-judge label content refusal (rows.labelTooLong h) = rw (lt-ltb labelLimit (length label) h)
+refuses-judge label content refusal (rows.notALabel s h) = rw (le-ltb labelLimit (length label) s, not-label label (isLabel label) refl h)
+refuses-judge label content refusal (rows.noData s l e) = rw (le-ltb labelLimit (length label) s, label-test l, e)
+refuses-judge label content refusal (rows.dataTooLong s l h) =
+    let some : length content ≢ 0 = λ e. omega arith in
+    rw (le-ltb labelLimit (length label) s, label-test l, ne-eqb (length content) 0 some, lt-ltb dataLimit (length content) h)
+
+-- ---- The answer and the output
+
+-- With room and without, of a text of the size that was judged.
+room-answer : (text : List ℕ) (n room : ℕ) → n ≡ length text → length text ≤ room
+    → (answered (judgement.Taken (textSize n)) room ≡ answer.Accepted (textSize (length text)))
+    × (filled (judgement.Taken (textSize n)) text room ≡ text ++ replicate (room - length text) 0)
+room-answer text n room e h = (rw (e, le-ltb room (length text) h), rw (e, le-ltb room (length text) h))
+
+small-answer : (text : List ℕ) (n room : ℕ) → n ≡ length text → room < length text
+    → (answered (judgement.Taken (textSize n)) room ≡ answer.OutputTooSmall (textSize (length text)))
+    × (filled (judgement.Taken (textSize n)) text room ≡ replicate room 0)
+small-answer text n room e h = (rw (e, lt-ltb room (length text) h), rw (e, lt-ltb room (length text) h))
+
+-- What is written of a label and data that the writer takes.
+pub takes-answer : (label content : List ℕ) (room : ℕ) → Takes label content → length (writtenText label content) ≤ room
+    → (writeOf label content room ≡ answer.Accepted (textSize (length (writtenText label content))))
+    × (writeOutput label content room ≡ writtenText label content ++ replicate (room - length (writtenText label content)) 0)
+takes-answer label content room t h =
+    let w = room-answer (writtenText label content) _ room (sym (length-written label content (t .someData))) h in
+    let j = takes-judge label content t in
+    (ap (λ x. answered x room) j ∙ w .0, ap (λ x. filled x (writtenText label content) room) j ∙ w .1)
+
+takes-small : (label content : List ℕ) (room : ℕ) → Takes label content → room < length (writtenText label content)
+    → (writeOf label content room ≡ answer.OutputTooSmall (textSize (length (writtenText label content))))
+    × (writeOutput label content room ≡ replicate room 0)
+takes-small label content room t h =
+    let w = small-answer (writtenText label content) _ room (sym (length-written label content (t .someData))) h in
+    let j = takes-judge label content t in
+    (ap (λ x. answered x room) j ∙ w .0, ap (λ x. filled x (writtenText label content) room) j ∙ w .1)
+
+-- What `write` is defined to answer and to write is what the rows say. The data that a call can be given are octets.
+pub write-means : (label content : List ℕ) (room : ℕ) → All Octet content → Writes label content room (writeOf label content room) (writeOutput label content room)
+write-means label content room octets = go (judgeOf label content) refl (judge-means label content)
+  where
+    text : List ℕ
+    text = writtenText label content
+
+    fits : Takes label content → (b : Bool) → ltb room (length text) ≡ b → Writes label content room (writeOf label content room) (writeOutput label content room)
+    fits t true e =
+        let w = takes-small label content room t (ltb-true _ _ e) in
+        rw (w .0, w .1) (rows.outputTooSmall text t (written-strict label content octets (t .isLabel) (t .someData)) (ltb-true _ _ e))
+    fits t false e =
+        let w = takes-answer label content room t (ltb-false _ _ e) in
+        rw (w .0, w .1) (rows.accepted text t (written-strict label content octets (t .isLabel) (t .someData)) (ltb-false _ _ e))
+
+    go : (j : Judgement) → judgeOf label content ≡ j → Judged label content j → Writes label content room (writeOf label content room) (writeOutput label content room)
+    go j e (takes t) = fits t (ltb room (length text)) refl
+    go j e (refuses f) = rw e (rows.refused f)
+
+-- The rows leave no other answer and no other output.
+pub writes-write : (label content : List ℕ) (room : ℕ) (a : WriteAnswer) (o : List ℕ) → Writes label content room a o
+    → (a ≡ writeOf label content room) × (o ≡ writeOutput label content room)
+writes-write label content room a o (rows.accepted text t s h) =
+    let same = strict-written text label content s in
+    let w = takes-answer label content room t (rw same at h) in
+    rw same (sym (w .0), sym (w .1))
+writes-write label content room a o (rows.refused {refusal} f) =
+    let j = refuses-judge label content refusal f in
+    (sym (ap (λ x. answered x room) j), sym (ap (λ x. filled x (writtenText label content) room) j))
+writes-write label content room a o (rows.outputTooSmall text t s h) =
+    let same = strict-written text label content s in
+    let w = takes-small label content room t (rw same at h) in
+    rw same (sym (w .0), sym (w .1))
+
+pub writes-unique : (label content : List ℕ) (room : ℕ) (a b : WriteAnswer) (o p : List ℕ) → Writes label content room a o → Writes label content room b p
+    → (a ≡ b) × (o ≡ p)
+writes-unique label content room a b o p h k =
+    let x = writes-write label content room a o h in
+    let y = writes-write label content room b p k in
+    (x .0 ∙ sym (y .0), x .1 ∙ sym (y .1))
