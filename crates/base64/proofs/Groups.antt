@@ -2,13 +2,13 @@
 use mathlib.Core.Path.{_≡_, refl, _∙_, ap}
 use mathlib.Core.Logic.{inl, inr}
 use mathlib.Core.List.{List, [], _∷_, _++_, map}
-use Prim.Native.Nat.{ℕ, _+_, _*_, _/_, _%_, _≤_}
+use Prim.Native.Nat.{ℕ, _+_, _*_, _/_, _%_, _≤_, _<_}
 use native.Mathlib.Omega.{arith}
-use lib.ListN.{length, replicate, length-append, length-map, length-replicate}
+use lib.ListN.{length, getD, replicate, length-append, length-map, length-replicate}
 use Rattle.base64.specs.Lists.{All}
 use Rattle.base64.specs.Alphabet.{Sextet, Octet, AlphabetChar, charOf, valueOf, pad}
 use Rattle.base64.specs.Groups.{value1, value2, value3, value4, toValues, padsFor, byte1, byte2, byte3, toBytes, spareBits, CountsFit, valuesOf, charsOf, encode, decode}
-use Rattle.base64.proofs.Lists.{all-map, map-undone}
+use Rattle.base64.proofs.Lists.{all-map, all-at, map-undone}
 use Rattle.base64.proofs.Alphabet.{value-char, char-value}
 
 -- ---- kinds and counts
@@ -18,6 +18,9 @@ values-sextets [] h = tt
 values-sextets (x ∷ []) h = (omega arith, (omega arith, tt))
 values-sextets (x ∷ y ∷ []) h = (omega arith, (omega arith, (omega arith, tt)))
 values-sextets (x ∷ y ∷ z ∷ r) h = (omega arith, (omega arith, (omega arith, (omega arith, values-sextets r (h .1 .1 .1)))))
+
+pub value-at : (v d : List ℕ) → v ≡ toValues d → All Octet d → (i : ℕ) → i < length (toValues d) → Sextet (getD v i 0)
+value-at v d e h i k = rw e (all-at Sextet (toValues d) 0 (values-sextets d h) i k)
 
 pub bytes-octets : (v : List ℕ) → All Sextet v → All Octet (toBytes v)
 bytes-octets [] h = tt

@@ -1,6 +1,9 @@
 -- Lists whose elements are all of one kind. Assumes nothing.
 use mathlib.Core.Path.{_≡_, refl}
 use mathlib.Core.List.{List, [], _∷_, _++_, map}
+use Prim.Native.Nat.{ℕ, zero, suc, _<_}
+use native.Mathlib.Omega.{arith}
+use lib.ListN.{length, getD}
 use Rattle.base64.specs.Lists.{All}
 
 pub all-append : {A : Type 0} (P : A → Type 0) (a b : List A) → All P a → All P b → All P (a ++ b)
@@ -30,3 +33,13 @@ pub map-undone : {A B : Type 0} (f : A → B) (g : B → A) (P : A → Type 0) �
     → (a : List A) → All P a → map g (map f a) ≡ a
 map-undone f g P e [] h = refl
 map-undone f g P e (x ∷ a) h = λ i. e x (h .0) i ∷ map-undone f g P e a (h .1) i
+
+-- Each place of such a list, and a list by its places.
+pub all-at : {A : Type 0} (P : A → Type 0) (l : List A) (z : A) → All P l → (i : ℕ) → i < length l → P (getD l i z)
+all-at P [] z h i k = absurd (omega arith)
+all-at P (x ∷ l) z h zero k = h .0
+all-at P (x ∷ l) z h (suc i) k = all-at P l z (h .1) i (omega arith)
+
+pub at-all : {A : Type 0} (P : A → Type 0) (l : List A) (z : A) → ((i : ℕ) → i < length l → P (getD l i z)) → All P l
+at-all P [] z f = tt
+at-all P (x ∷ l) z f = (f 0 (omega arith), at-all P l z (λ i k. f (suc i) (omega arith)))

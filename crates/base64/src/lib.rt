@@ -4,7 +4,7 @@ ghost use mathlib.Core.Path.{_≡_};
 ghost use mathlib.Core.List.{[], _∷_};
 ghost use Prim.Native.Nat.{_*_, _/_};
 ghost use Rattle.base64.specs.Alphabet.{Sextet, alphabet, charOf, answerOf};
-ghost use Rattle.base64.specs.Groups.{toBytes, toValues, spareBits};
+ghost use Rattle.base64.specs.Groups.{toBytes, toValues, spareBits, encode};
 
 // The pad behind a short group.
 pub const PAD: u8 = b'=';
@@ -150,4 +150,41 @@ pub fn values_of_one(x: u8) -> [u8; 2]
     ensures { λ r. ⌜ r ≡ toValues (x ∷ []) ⌝ }
 {
     [x / 4, x % 4 * 16]
+}
+
+// The base 64 text of three bytes, by the table of the alphabet.
+pub fn encode_three(table: &[u8; 64], x: u8, y: u8, z: u8) -> [u8; 4]
+    requires { ⌜ now table ≡ alphabet ⌝ }
+    ensures { λ r. ⌜ r ≡ encode (x ∷ y ∷ z ∷ []) ⌝ }
+{
+    let v = values_of_three(x, y, z);
+    [
+        char_of(table, v[0]),
+        char_of(table, v[1]),
+        char_of(table, v[2]),
+        char_of(table, v[3]),
+    ]
+}
+
+// The base 64 text of two bytes at the end.
+pub fn encode_two(table: &[u8; 64], x: u8, y: u8) -> [u8; 4]
+    requires { ⌜ now table ≡ alphabet ⌝ }
+    ensures { λ r. ⌜ r ≡ encode (x ∷ y ∷ []) ⌝ }
+{
+    let v = values_of_two(x, y);
+    [
+        char_of(table, v[0]),
+        char_of(table, v[1]),
+        char_of(table, v[2]),
+        PAD,
+    ]
+}
+
+// The base 64 text of one byte at the end.
+pub fn encode_one(table: &[u8; 64], x: u8) -> [u8; 4]
+    requires { ⌜ now table ≡ alphabet ⌝ }
+    ensures { λ r. ⌜ r ≡ encode (x ∷ []) ⌝ }
+{
+    let v = values_of_one(x);
+    [char_of(table, v[0]), char_of(table, v[1]), PAD, PAD]
 }

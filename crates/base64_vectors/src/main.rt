@@ -31,34 +31,8 @@ fn put_char(table: &[u8; 64], value: u8)
     }
 }
 
-fn encode_one(table: &[u8; 64], x: u8)
-    requires { ⌜ now table ≡ alphabet ⌝ }
-{
-    let v = base64::values_of_one(x);
-    put_char(table, v[0]);
-    put_char(table, v[1]);
-    put(base64::PAD);
-    put(base64::PAD);
-}
-
-fn encode_two(table: &[u8; 64], x: u8, y: u8)
-    requires { ⌜ now table ≡ alphabet ⌝ }
-{
-    let v = base64::values_of_two(x, y);
-    put_char(table, v[0]);
-    put_char(table, v[1]);
-    put_char(table, v[2]);
-    put(base64::PAD);
-}
-
-fn encode_three(table: &[u8; 64], x: u8, y: u8, z: u8)
-    requires { ⌜ now table ≡ alphabet ⌝ }
-{
-    let v = base64::values_of_three(x, y, z);
-    put_char(table, v[0]);
-    put_char(table, v[1]);
-    put_char(table, v[2]);
-    put_char(table, v[3]);
+fn put_group(group: [u8; 4]) {
+    io::write_all(STDOUT_FILENO, &group);
 }
 
 // The base 64 text of the bytes, and a line end.
@@ -67,14 +41,14 @@ fn encode(table: &[u8; 64], bytes: &[u8])
 {
     let mut i = 0;
     while 2 < bytes.len() - i {
-        encode_three(table, bytes[i], bytes[i + 1], bytes[i + 2]);
+        put_group(base64::encode_three(table, bytes[i], bytes[i + 1], bytes[i + 2]));
         i += 3;
     }
     if bytes.len() - i == 2 {
-        encode_two(table, bytes[i], bytes[i + 1]);
+        put_group(base64::encode_two(table, bytes[i], bytes[i + 1]));
     }
     if bytes.len() - i == 1 {
-        encode_one(table, bytes[i]);
+        put_group(base64::encode_one(table, bytes[i]));
     }
     end_line();
 }

@@ -35,6 +35,9 @@ shared-slice-read-encode-three-3 c = search needs
 encode-three-requires : tie.Need-encode-three-requires Inv-loop μ-loop
 encode-three-requires c κs = search needs
 
+put-group-requires : tie.Need-put-group-requires Inv-loop μ-loop
+put-group-requires c κs = search needs
+
 add-i : tie.Need-add-i Inv-loop μ-loop
 add-i c = search needs
 
@@ -59,6 +62,9 @@ shared-slice-read-encode-two-2 c = search needs
 encode-two-requires : tie.Need-encode-two-requires Inv-loop μ-loop
 encode-two-requires c κs = search needs
 
+put-group-requires-2 : tie.Need-put-group-requires-2 Inv-loop μ-loop
+put-group-requires-2 c κs = search needs
+
 sub-if2 : tie.Need-sub-if2 Inv-loop μ-loop
 sub-if2 c = search needs
 
@@ -67,6 +73,9 @@ shared-slice-read-encode-one c = search needs
 
 encode-one-requires : tie.Need-encode-one-requires Inv-loop μ-loop
 encode-one-requires c κs = search needs
+
+put-group-requires-3 : tie.Need-put-group-requires-3 Inv-loop μ-loop
+put-group-requires-3 c κs = search needs
 
 end-line-requires : tie.Need-end-line-requires Inv-loop μ-loop
 end-line-requires c κs = search needs
@@ -88,6 +97,7 @@ encode-spec =
     add-encode-three-2
     shared-slice-read-encode-three-3
     encode-three-requires
+    put-group-requires
     add-i
     loop-less
     loop-again
@@ -96,8 +106,10 @@ encode-spec =
     add-encode-two
     shared-slice-read-encode-two-2
     encode-two-requires
+    put-group-requires-2
     sub-if2
     shared-slice-read-encode-one
     encode-one-requires
+    put-group-requires-3
     end-line-requires
     returns)
