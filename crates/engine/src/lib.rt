@@ -2,7 +2,7 @@
 ghost use mathlib.Core.Path.{_≡_};
 ghost use lib.ListN.{length, getD};
 ghost use Rattle.machine.proofs.ByteKinds.{kindOf, otherKind};
-ghost use Rattle.machine.proofs.Machine.{wordOf, wordStep, labelRow, labelTarget, lineEnd, lineChar, linePad, row, laxRow, standardRow, strictRow, target, behind, labelled, beforeStep, next, step, start, later, accepting, strictAccepting, isAfter, dead, bytePart, boundaryPart, laxPart, standardPart, strictPart, partOf};
+ghost use Rattle.machine.proofs.Machine.{wordOf, wordStep, labelRow, labelTarget, labelStep, lineEnd, lineChar, linePad, row, laxRow, standardRow, strictRow, target, behind, labelled, beforeStep, next, step, start, later, accepting, strictAccepting, isAfter, dead, bytePart, boundaryPart, laxPart, standardPart, strictPart, partOf};
 use base64::PAD;
 use base64::Value;
 use base64::value_of;
@@ -23,7 +23,7 @@ use machine::StrictPhase;
 // The marks.
 const HT: u8 = b'\t';
 
-const LF: u8 = b'\n';
+pub const LF: u8 = b'\n';
 
 const VT: u8 = 11;
 
@@ -40,9 +40,9 @@ const FIRST_MARK: u8 = b'!';
 
 const LAST_MARK: u8 = b'~';
 
-const BEGIN: [u8; 11] = *b"-----BEGIN ";
+pub const BEGIN: [u8; 11] = *b"-----BEGIN ";
 
-const END: [u8; 9] = *b"-----END ";
+pub const END: [u8; 9] = *b"-----END ";
 
 // How many characters a strict line has room for behind its first.
 const LINE_ROOM: u8 = 63;
@@ -197,6 +197,13 @@ fn label_target(row: LabelRow, kind: Kind) -> LabelTarget
         Kind::Mark => row.char,
         Kind::Other => LabelTarget::Refused,
     }
+}
+
+// Where a byte takes a label. The writer's test of a label goes by it too.
+pub fn label_step(phase: LabelPhase, b: u8) -> LabelTarget
+    ensures { λ r. ⌜ r ≡ labelStep phase b ⌝ }
+{
+    label_target(label_row(phase), kind_of(b))
 }
 
 // The phase right behind a boundary.
@@ -403,11 +410,7 @@ fn next_phase(grammar: Grammar, phase: Phase, b: u8) -> Phase
     match phase {
         Phase::Before => before_step(kind_of(b)),
         Phase::Word(boundary, read) => word_step(boundary, read, b),
-        Phase::Label(boundary, label) => label_phase(
-            grammar,
-            boundary,
-            label_target(label_row(label), kind_of(b)),
-        ),
+        Phase::Label(boundary, label) => label_phase(grammar, boundary, label_step(label, b)),
         Phase::Lax(lax) => row_target(lax_row(lax), kind_of(b)),
         Phase::Standard(standard) => row_target(standard_row(standard), kind_of(b)),
         Phase::Strict(strict) => row_target(strict_row(strict), kind_of(b)),

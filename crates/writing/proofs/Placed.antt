@@ -1,0 +1,58 @@
+-- A lent output in which a list is put from a place on, and the rest stays as it was. Assumes nothing.
+use mathlib.Core.Path.{_≡_, refl, sym, ap, _∙_}
+use mathlib.Core.List.{List, [], _∷_, _++_, append-assoc}
+use Prim.Native.Nat.{ℕ, zero, suc, _+_, _-_, _≤_, _<_}
+use native.Mathlib.Omega.{arith}
+use lib.ListN.{length, set, take, drop, replicate, length-append, length-drop, take-append-drop}
+use lib.Seq.{length-take-le, take-at, drop-at, drop-nil, drop-drop, set-split}
+
+-- The output with the list from `at` on.
+abbrev pub placed : List ℕ → ℕ → List ℕ → List ℕ
+placed out at l = take at out ++ (l ++ drop (at + length l) out)
+
+pub placed-length : (out : List ℕ) (at : ℕ) (l : List ℕ) → at + length l ≤ length out → length (placed out at l) ≡ length out
+placed-length out at l h =
+    omega (arith, length-append (take at out) (l ++ drop (at + length l) out), length-append l (drop (at + length l) out), length-drop (at + length l) out, length-take-le at out (omega arith))
+
+pub placed-none : (out : List ℕ) (at : ℕ) → out ≡ placed out at []
+placed-none out at =
+    let none : at ≡ at + 0 = omega arith in
+    sym (take-append-drop at out) ∙ ap (λ (n : ℕ). take at out ++ drop n out) none
+
+pub placed-one : (out : List ℕ) (at c : ℕ) → at < length out → set out at c ≡ placed out at (c ∷ [])
+placed-one out at c h =
+    let one : suc at ≡ at + 1 = omega arith in
+    set-split out at c h ∙ ap (λ (n : ℕ). take at out ++ (c ∷ drop n out)) one
+
+-- One list, and another right behind it.
+pub placed-more : (out : List ℕ) (at : ℕ) (a b : List ℕ) → at + length (a ++ b) ≤ length out
+    → placed (placed out at a) (at + length a) b ≡ placed out at (a ++ b)
+placed-more out at a b h =
+    let sum = length-append a b in
+    let front = length-take-le at out (omega arith) in
+    let before : length (take at out ++ a) ≡ at + length a = length-append (take at out) a ∙ omega arith in
+    let whole : placed out at a ≡ (take at out ++ a) ++ drop (at + length a) out = sym (append-assoc (take at out) a (drop (at + length a) out)) in
+    let kept : take (at + length a) (placed out at a) ≡ take at out ++ a = ap (take (at + length a)) whole ∙ take-at (take at out ++ a) _ (at + length a) before in
+    let behind : drop (at + length a) (placed out at a) ≡ drop (at + length a) out = ap (drop (at + length a)) whole ∙ drop-at (take at out ++ a) _ (at + length a) before in
+    let rest : drop (at + length a + length b) (placed out at a) ≡ drop (at + length a + length b) out =
+        sym (drop-drop (length b) (at + length a) (placed out at a)) ∙ ap (drop (length b)) behind ∙ drop-drop (length b) (at + length a) out in
+    let end : at + length a + length b ≡ at + length (a ++ b) = omega arith in
+    (λ i. kept i ++ (b ++ (rest ∙ ap (λ (n : ℕ). drop n out) end) i))
+    ∙ simp append-assoc
+
+drop-replicate : (n m v : ℕ) → drop m (replicate n v) ≡ replicate (n - m) v
+drop-replicate zero m v =
+    let none : 0 ≡ zero - m = omega arith in
+    drop-nil m ∙ ap (λ (k : ℕ). replicate k v) none
+drop-replicate (suc n) zero v =
+    let all : suc n ≡ suc n - 0 = omega arith in
+    ap (λ (k : ℕ). replicate k v) all
+drop-replicate (suc n) (suc m) v =
+    let same : n - m ≡ suc n - suc m = omega arith in
+    drop-replicate n m v ∙ ap (λ (k : ℕ). replicate k v) same
+
+-- Put into zeros from the start, it has zeros behind it.
+pub placed-zeros : (room : ℕ) (l : List ℕ) → placed (replicate room 0) 0 l ≡ l ++ replicate (room - length l) 0
+placed-zeros room l =
+    let all : 0 + length l ≡ length l = omega arith in
+    ap (λ (n : ℕ). l ++ drop n (replicate room 0)) all ∙ ap (λ (x : List ℕ). l ++ x) (drop-replicate room (length l) 0)
