@@ -1,10 +1,10 @@
--- The tests of the checks 6 to 9 decide what the relations ask. Assumes nothing.
-use mathlib.Core.Path.{_≡_, refl, sym}
+-- The tests of the checks decide what the relations ask. Assumes nothing.
+use mathlib.Core.Path.{_≡_, refl, sym, _∙_}
 use mathlib.Core.Logic.{inl, inr}
-use mathlib.Core.Bool.{Bool, true, false, cond, true≢false}
+use mathlib.Core.Bool.{Bool, true, false, not, cond, true≢false}
 use Prim.Native.Nat.{ℕ, _%_}
 use lib.Dec.{eqb}
-use borrow.Author.Tests.{eqb-true}
+use borrow.Author.Tests.{eqb-true, not-true, not-false}
 use Rattle.base64.specs.Groups.{CountsFit}
 use Rattle.reading.specs.Read.{countsFit}
 
@@ -23,3 +23,10 @@ pub counts-fit-test : (n p : ℕ) → CountsFit n p → countsFit n p ≡ true
 counts-fit-test n p (inl (e, f)) = rw (countsFit, e, f)
 counts-fit-test n p (inr (inl (e, f))) = rw (countsFit, e, f)
 counts-fit-test n p (inr (inr (e, f))) = rw (countsFit, e, f)
+
+-- What the code's test of a check's answer tells: `if !check(..)` was passed by, or taken.
+pub check-passed : {r b : Bool} → r ≡ b → not r ≡ false → b ≡ true
+check-passed e h = sym e ∙ not-false _ h
+
+pub check-failed : {r b : Bool} → r ≡ b → not r ≡ true → b ≡ false
+check-failed e h = sym e ∙ not-true _ h

@@ -4,4 +4,4 @@ pub mod Text
 pub mod Meaning
 pub mod Claims
 pub mod Placed
-pub mod Pens
+pub mod Progress

@@ -21,6 +21,7 @@ use Rattle.writing.specs.Meaning.{Refuses, Takes, StrictText, Writes}
 use Rattle.writing.specs.Write.{isLabel, judgeOf, answered, writeOf, filled, writeOutput}
 use Rattle.writing.specs.declared.Judgement.{Judgement}
 use Rattle.writing.specs.declared.Judgement.the-variants as judgement
+use Rattle.writing.specs.declared.TextSize.{TextSize}
 use Rattle.writing.specs.declared.WriteAnswer.{WriteAnswer}
 use Rattle.writing.specs.declared.WriteAnswer.the-variants as answer
 use Rattle.writing.specs.declared.WriteRefusal.{WriteRefusal}
@@ -65,6 +66,18 @@ pub takes-judge : (label content : List ℕ) → Takes label content → judgeOf
 takes-judge label content t =
     let some : length content ≢ 0 = λ e. t .someData (no-length content e) in
     rw (le-ltb labelLimit (length label) (t .shortLabel), label-test (t .isLabel), ne-eqb (length content) 0 some, le-ltb dataLimit (length content) (t .shortData))
+
+-- The size that was judged is the text's length.
+pub taken-size : (label content : List ℕ) (size : TextSize) → judgeOf label content ≡ judgement.Taken size → size .0 ≡ length (writtenText label content)
+taken-size label content size e = go (judgeOf label content) (judge-means label content) e
+  where
+    go : (j : Judgement) → Judged label content j → j ≡ judgement.Taken size → size .0 ≡ length (writtenText label content)
+    go j (takes t) e =
+        let same : textSize (writtenSize (length label) (length content)) ≡ size = cc in
+        sym (ap (λ s. s .0) same) ∙ sym (length-written label content (t .someData))
+    go j (refuses f) e =
+        let z : _≡_ {A = ℕ} 0 1 = cc in
+        absurd (omega arith)
 
 not-label : (label : List ℕ) (b : Bool) → isLabel label ≡ b → ¬ Label label → b ≡ false
 not-label label true e h = absurd (h (test-label label e))

@@ -3,8 +3,9 @@ use mathlib.Core.Path.{_≡_, refl, sym, ap, _∙_}
 use mathlib.Core.List.{List, [], _∷_, _++_, append-assoc}
 use Prim.Native.Nat.{ℕ, zero, suc, _+_, _-_, _≤_, _<_}
 use native.Mathlib.Omega.{arith}
-use lib.ListN.{length, set, take, drop, replicate, length-append, length-drop, take-append-drop}
-use lib.Seq.{length-take-le, take-at, drop-at, drop-nil, drop-drop, set-split}
+use native.Mathlib.Numerals.{add-one}
+use lib.ListN.{length, getD, set, take, drop, replicate, length-append, length-drop, take-append-drop}
+use lib.Seq.{length-take-le, take-suc, take-at, drop-at, drop-nil, drop-drop, set-split, sets-eq}
 
 -- The output with the list from `at` on.
 abbrev pub placed : List ℕ → ℕ → List ℕ → List ℕ
@@ -35,10 +36,40 @@ placed-more out at a b h =
     let kept : take (at + length a) (placed out at a) ≡ take at out ++ a = ap (take (at + length a)) whole ∙ take-at (take at out ++ a) _ (at + length a) before in
     let behind : drop (at + length a) (placed out at a) ≡ drop (at + length a) out = ap (drop (at + length a)) whole ∙ drop-at (take at out ++ a) _ (at + length a) before in
     let rest : drop (at + length a + length b) (placed out at a) ≡ drop (at + length a + length b) out =
-        sym (drop-drop (length b) (at + length a) (placed out at a)) ∙ ap (drop (length b)) behind ∙ drop-drop (length b) (at + length a) out in
+    sym (drop-drop (length b) (at + length a) (placed out at a)) ∙ ap (drop (length b)) behind ∙ drop-drop (length b) (at + length a) out in
     let end : at + length a + length b ≡ at + length (a ++ b) = omega arith in
     (λ i. kept i ++ (b ++ (rest ∙ ap (λ (n : ℕ). drop n out) end) i))
     ∙ simp append-assoc
+
+-- A byte more of a list that is put in byte by byte.
+pub placed-next : (out : List ℕ) (at : ℕ) (l : List ℕ) (i : ℕ) → at + length l ≤ length out → i < length l
+    → set (placed out at (take i l)) (at + i) (getD l i 0) ≡ placed out at (take (i + 1) l)
+placed-next out at l i h k =
+    let some : length (take i l) ≡ i = length-take-le i l (omega arith) in
+    let more : take (i + 1) l ≡ take i l ++ (getD l i 0 ∷ []) = ap (λ (n : ℕ). take n l) (add-one i) ∙ take-suc l i 0 k in
+    let short : at + length (take i l ++ (getD l i 0 ∷ [])) ≤ length out = omega (arith, length-append (take i l) (getD l i 0 ∷ [])) in
+    let room : at + i < length (placed out at (take i l)) = omega (arith, placed-length out at (take i l) (omega arith)) in
+    placed-one (placed out at (take i l)) (at + i) (getD l i 0) room
+    ∙ ap (λ (n : ℕ). placed (placed out at (take i l)) (at + n) (getD l i 0 ∷ [])) (sym some)
+    ∙ placed-more out at (take i l) (getD l i 0 ∷ []) short
+    ∙ ap (placed out at) (sym more)
+
+-- Four stores in a row.
+pub placed-four : (out : List ℕ) (at a b c d : ℕ) → at + 4 ≤ length out
+    → set (set (set (set out at a) (at + 1) b) (at + 2) c) (at + 3) d ≡ placed out at (a ∷ b ∷ c ∷ d ∷ [])
+placed-four out at a b c d h =
+    let one : at + 1 ≡ suc at = omega arith in
+    let two : at + 2 ≡ suc (suc at) = omega arith in
+    let three : at + 3 ≡ suc (suc (suc at)) = omega arith in
+    rw (one, two, three) (sets-eq (a ∷ b ∷ c ∷ d ∷ []) out at h ∙ append-assoc (take at out) (a ∷ b ∷ c ∷ d ∷ []) (drop (at + 4) out))
+
+pub four-elements : (l : List ℕ) → length l ≡ 4 → l ≡ getD l 0 0 ∷ getD l 1 0 ∷ getD l 2 0 ∷ getD l 3 0 ∷ []
+four-elements [] h = absurd (omega arith)
+four-elements (a ∷ []) h = absurd (omega arith)
+four-elements (a ∷ b ∷ []) h = absurd (omega arith)
+four-elements (a ∷ b ∷ c ∷ []) h = absurd (omega arith)
+four-elements (a ∷ b ∷ c ∷ d ∷ []) h = refl
+four-elements (a ∷ b ∷ c ∷ d ∷ e ∷ l) h = absurd (omega arith)
 
 drop-replicate : (n m v : ℕ) → drop m (replicate n v) ≡ replicate (n - m) v
 drop-replicate zero m v =
@@ -56,3 +87,23 @@ pub placed-zeros : (room : ℕ) (l : List ℕ) → placed (replicate room 0) 0 l
 placed-zeros room l =
     let all : 0 + length l ≡ length l = omega arith in
     ap (λ (n : ℕ). l ++ drop n (replicate room 0)) all ∙ ap (λ (x : List ℕ). l ++ x) (drop-replicate room (length l) 0)
+
+-- ---- what a function has done that puts a list into the output
+
+-- The list stands in the output from `at` on, the rest is as it was, and the list ends at `end`.
+pub record Put (old : List ℕ) (at : ℕ) (l new : List ℕ) (end : ℕ) : Type 0 where
+  pub output : new ≡ placed old at l
+  pub ends : end ≡ at + length l
+
+pub put-none : (out : List ℕ) (at : ℕ) → Put out at [] out at
+put-none out at = record { output = placed-none out at; ends = omega arith }
+
+pub put-one : (out : List ℕ) (at c : ℕ) → at < length out → Put out at (c ∷ []) (set out at c) (at + 1)
+put-one out at c h = record { output = placed-one out at c h; ends = refl }
+
+pub put-more : {old mid new : List ℕ} {at next end : ℕ} (a b : List ℕ) → Put old at a mid next → Put mid next b new end → at + length (a ++ b) ≤ length old
+    → Put old at (a ++ b) new end
+put-more {old} {at = at} a b p q h = record {
+  output = q .output ∙ (λ i. placed (p .output i) (p .ends i) b) ∙ placed-more old at a b h;
+  ends = omega (arith, p .ends, q .ends, length-append a b);
+}

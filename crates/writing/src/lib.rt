@@ -30,7 +30,7 @@ pub enum WriteAnswer {
 }
 
 // Where the next character of the lines is written, and how many more its line has room for.
-pub struct Pen {
+pub struct Cursor {
     pub at: usize,
     pub room: usize,
 }

@@ -1,20 +1,15 @@
 -- `reader::judge_parts` meets its contract: the code's checks are those of `judgedParts`. Assumes nothing.
-use mathlib.Core.Path.{_≡_, sym, ap, _∙_}
-use mathlib.Core.Bool.{Bool, true, false, not}
+use mathlib.Core.Path.{_≡_, ap}
+use mathlib.Core.Bool.{true, false}
 use lib.Dec.{ltb}
-use borrow.Author.Tests.{lt-ltb, le-ltb, not-true, not-false}
+use borrow.Author.Tests.{lt-ltb, le-ltb}
 use borrow.Author.Needs.{needs}
 use Rattle.reading.specs.Limits.{labelLimit}
 use Rattle.reading.specs.Answers.{byteCount}
 use Rattle.reading.specs.Read.{labelsAgree, countsFit, spareClear}
+use Rattle.reading.proofs.Checks.{check-passed, check-failed}
 use Rattle.reader.proofs.judge_parts.Statement.{statement}
 use Rattle.reader.proofs.judge_parts.Tie as tie
-
-check-passed : {r b : Bool} → r ≡ b → not r ≡ false → b ≡ true
-check-passed e h = sym e ∙ not-false _ h
-
-check-failed : {r b : Bool} → r ≡ b → not r ≡ true → b ≡ false
-check-failed e h = sym e ∙ not-true _ h
 
 abbrev start : tie.Else1 → tie.Start
 start c = c .before .before .before .before

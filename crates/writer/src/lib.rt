@@ -1,0 +1,277 @@
+// Writing one message: the checks 11 to 14 and 10, and the strict text with LF line ends.
+// The definitions that the contracts cite stand in the crate `writing`.
+ghost use mathlib.Core.Path.{_≡_};
+ghost use mathlib.Core.List.{_++_};
+ghost use Prim.Native.Nat.{_+_, _-_, _≤_, _<_};
+ghost use lib.ListN.{length, replicate};
+ghost use Rattle.base64.specs.Alphabet.{alphabet};
+ghost use Rattle.base64.specs.Groups.{encode};
+ghost use Rattle.grammar.specs.Grammars.{lineChars};
+ghost use Rattle.machine.proofs.Machine.{labelEnds};
+ghost use Rattle.reading.specs.Limits.{labelLimit};
+ghost use Rattle.writing.specs.Limits.{dataLimit};
+ghost use Rattle.writing.specs.Answers.{numberOf};
+ghost use Rattle.writing.specs.Text.{lineEnd, inLines, writtenText, writtenSize};
+ghost use Rattle.writing.specs.Meaning.{Writes};
+ghost use Rattle.writing.specs.Write.{isLabel, judgeOf, writeOf, writeOutput};
+ghost use Rattle.writing.proofs.Placed.{Put};
+ghost use Rattle.writing.proofs.Progress.{groupChars, WholeGroups, lineBreak, roomThen, groupText, boundaryLine};
+use machine::LabelPhase;
+use machine::LabelTarget;
+use writing::Cursor;
+use writing::Judgement;
+use writing::TextSize;
+use writing::WriteAnswer;
+use writing::WriteRefusal;
+
+// The longest data that is written, in bytes.
+pub const DATA_LIMIT: usize = 32768;
+
+// The characters of a full line, and the bytes that they stand for; the same of a group.
+const LINE_CHARS: usize = 64;
+
+const LINE_BYTES: usize = 48;
+
+const GROUP_CHARS: usize = 4;
+
+const GROUP_BYTES: usize = 3;
+
+// What a text has beside labels, characters and their line ends: the rest of its boundaries, and the line ends of these.
+const FRAME: usize = 32;
+
+// The end of a boundary.
+const HYPHENS: [u8; 5] = *b"-----";
+
+// Whether a label may end in this phase.
+fn label_ends(phase: LabelPhase) -> bool
+    ensures { λ r. ⌜ r ≡ labelEnds phase ⌝ }
+{
+    match phase {
+        LabelPhase::Start => true,
+        LabelPhase::Char => true,
+        LabelPhase::Space => false,
+        LabelPhase::Hyphen => false,
+        LabelPhase::One => false,
+        LabelPhase::Two => false,
+        LabelPhase::Three => false,
+        LabelPhase::Four => false,
+    }
+}
+
+// Whether the bytes are a label: by the very steps in which the reader reads one.
+fn is_label(label: &[u8]) -> bool
+    ensures { λ r. ⌜ r ≡ isLabel (now (label .entry)) ⌝ }
+{
+    let mut phase = LabelPhase::Start;
+    let mut i = 0;
+    while i < label.len() {
+        match engine::label_step(phase, label[i]) {
+            LabelTarget::To(next) => {
+                phase = next;
+            }
+            LabelTarget::Whole => {
+                return false;
+            }
+            LabelTarget::Refused => {
+                return false;
+            }
+        }
+        i += 1;
+    }
+    label_ends(phase)
+}
+
+// How many bytes the text of a label and data of these lengths has.
+fn text_size(label: usize, content: usize) -> TextSize
+    requires { ⌜ (label ≤ labelLimit) × (content ≤ dataLimit) ⌝ }
+    ensures { λ r. ⌜ r .0 ≡ writtenSize label content ⌝ }
+{
+    let groups = (content + GROUP_BYTES - 1) / GROUP_BYTES;
+    let lines = (content + LINE_BYTES - 1) / LINE_BYTES;
+    TextSize(FRAME + 2 * label + GROUP_CHARS * groups + lines)
+}
+
+// The checks 11 to 14.
+fn judge(label: &[u8], content: &[u8]) -> Judgement
+    ensures { λ r. ⌜ r ≡ judgeOf (now (label .entry)) (now (content .entry)) ⌝ }
+{
+    if reader::LABEL_LIMIT < label.len() {
+        return Judgement::Refused(WriteRefusal::LabelTooLong);
+    }
+    if !is_label(label) {
+        return Judgement::Refused(WriteRefusal::NotALabel);
+    }
+    if content.len() == 0 {
+        return Judgement::Refused(WriteRefusal::NoData);
+    }
+    if DATA_LIMIT < content.len() {
+        return Judgement::Refused(WriteRefusal::DataTooLong);
+    }
+    Judgement::Taken(text_size(label.len(), content.len()))
+}
+
+// Copies bytes into the output from `at` on, and answers where they end.
+fn put_bytes(out: &mut [u8], at: usize, bytes: &[u8]) -> usize
+    requires { ⌜ at + length (now bytes) ≤ length (now out) ⌝ }
+    ensures { λ r. ⌜ Put (now (out .entry)) at (now (bytes .entry)) (now (out .exit)) r ⌝ }
+{
+    let mut i = 0;
+    while i < bytes.len() {
+        out[at + i] = bytes[i];
+        i += 1;
+    }
+    at + i
+}
+
+// Writes a line end.
+fn put_end(out: &mut [u8], at: usize) -> usize
+    requires { ⌜ at + length lineEnd ≤ length (now out) ⌝ }
+    ensures { λ r. ⌜ Put (now (out .entry)) at lineEnd (now (out .exit)) r ⌝ }
+{
+    out[at] = engine::LF;
+    at + 1
+}
+
+// Writes a boundary and its line end.
+fn put_boundary(out: &mut [u8], at: usize, word: &[u8], label: &[u8]) -> usize
+    requires { ⌜ at + length (boundaryLine (now word) (now label)) ≤ length (now out) ⌝ }
+    ensures { λ r. ⌜ Put (now (out .entry)) at (boundaryLine (now (word .entry)) (now (label .entry))) (now (out .exit)) r ⌝ }
+{
+    let hyphens = HYPHENS;
+    let behind_word = put_bytes(out, at, word);
+    let behind_label = put_bytes(out, behind_word, label);
+    let behind_hyphens = put_bytes(out, behind_label, &hyphens);
+    put_end(out, behind_hyphens)
+}
+
+// Before a further character: a full line ends, and another begins.
+fn break_line(out: &mut [u8], at: usize, room: usize) -> Cursor
+    requires { ⌜ at + length (lineBreak room) ≤ length (now out) ⌝ }
+    ensures { λ r. ⌜ Put (now (out .entry)) at (lineBreak room) (now (out .exit)) (r .at) × (r .room ≡ roomThen room) ⌝ }
+{
+    if room == 0 {
+        let next = put_end(out, at);
+        return Cursor {
+            at: next,
+            room: LINE_CHARS,
+        };
+    }
+    Cursor { at, room }
+}
+
+// Writes four characters.
+fn put_four(out: &mut [u8], at: usize, group: [u8; 4]) -> usize
+    requires { ⌜ at + length group ≤ length (now out) ⌝ }
+    ensures { λ r. ⌜ Put (now (out .entry)) at group (now (out .exit)) r ⌝ }
+{
+    out[at] = group[0];
+    out[at + 1] = group[1];
+    out[at + 2] = group[2];
+    out[at + 3] = group[3];
+    at + GROUP_CHARS
+}
+
+// Writes a group of four characters, on a new line where the line is full.
+fn put_group(out: &mut [u8], at: usize, room: usize, group: [u8; 4]) -> Cursor
+    requires { ⌜ WholeGroups room × (at + length (groupText room group) ≤ length (now out)) ⌝ }
+    ensures { λ r. ⌜ Put (now (out .entry)) at (groupText room group) (now (out .exit)) (r .at) × (r .room ≡ roomThen room - groupChars) ⌝ }
+{
+    let cursor = break_line(out, at, room);
+    let start = cursor.at;
+    let end = put_four(out, start, group);
+    Cursor {
+        at: end,
+        room: cursor.room - GROUP_CHARS,
+    }
+}
+
+// Writes the last bytes of the data, fewer than three, and the line end of the last line.
+fn put_last_line(table: &[u8; 64], rest: &[u8], out: &mut [u8], at: usize, room: usize) -> usize
+    requires { ⌜ (now table ≡ alphabet) × (length (now rest) < 3) × WholeGroups room × (at + length (inLines room (encode (now rest))) ≤ length (now out)) ⌝ }
+    ensures { λ r. ⌜ Put (now (out .entry)) at (inLines room (encode (now (rest .entry)))) (now (out .exit)) r ⌝ }
+{
+    if rest.len() == 1 {
+        let cursor = put_group(out, at, room, base64::encode_one(table, rest[0]));
+        let end = cursor.at;
+        return put_end(out, end);
+    }
+    if rest.len() == 2 {
+        let cursor = put_group(out, at, room, base64::encode_two(table, rest[0], rest[1]));
+        let end = cursor.at;
+        return put_end(out, end);
+    }
+    put_end(out, at)
+}
+
+// Writes the lines of the data.
+fn put_lines(table: &[u8; 64], content: &[u8], out: &mut [u8], from: usize) -> usize
+    requires { ⌜ (now table ≡ alphabet) × (from + length (inLines lineChars (encode (now content))) ≤ length (now out)) ⌝ }
+    ensures { λ r. ⌜ Put (now (out .entry)) from (inLines lineChars (encode (now (content .entry)))) (now (out .exit)) r ⌝ }
+{
+    let mut at = from;
+    let mut room = LINE_CHARS;
+    let mut i = 0;
+    while 2 < content.len() - i {
+        let cursor = put_group(
+            out,
+            at,
+            room,
+            base64::encode_three(table, content[i], content[i + 1], content[i + 2]),
+        );
+        at = cursor.at;
+        room = cursor.room;
+        i += 3;
+    }
+    put_last_line(table, &content[i..], out, at, room)
+}
+
+// Writes the text to the start of `out`, and zeros behind it: of what stood there nothing is left.
+fn put_text(label: &[u8], content: &[u8], out: &mut [u8])
+    requires { ⌜ length (writtenText (now label) (now content)) ≤ length (now out) ⌝ }
+    ensures { λ _. ⌜ now (out .exit) ≡ writtenText (now (label .entry)) (now (content .entry)) ++ replicate (length (now (out .entry)) - length (writtenText (now (label .entry)) (now (content .entry)))) 0 ⌝ }
+{
+    let table = base64::alphabet_table();
+    let begin = engine::BEGIN;
+    let end = engine::END;
+    reader::clear(out);
+    let opened = put_boundary(out, 0, &begin, label);
+    let lined = put_lines(&table, content, out, opened);
+    put_boundary(out, lined, &end, label);
+}
+
+// Writes the strict text with LF line ends of a label and data. After `Accepted` the output holds the text and then zeros, after
+// anything else zeros only, whatever it held before. Any bytes may come in, and any length.
+pub fn write(label: &[u8], content: &[u8], out: &mut [u8]) -> WriteAnswer
+    ensures { λ r. ⌜ (r ≡ writeOf (now (label .entry)) (now (content .entry)) (length (now (out .entry)))) × (now (out .exit) ≡ writeOutput (now (label .entry)) (now (content .entry)) (length (now (out .entry)))) × Writes (now (label .entry)) (now (content .entry)) (length (now (out .entry))) r (now (out .exit)) ⌝ }
+{
+    match judge(label, content) {
+        Judgement::Taken(size) => {
+            if out.len() < size.0 {
+                reader::clear(out);
+                return WriteAnswer::OutputTooSmall(size);
+            }
+            put_text(label, content, out);
+            WriteAnswer::Accepted(size)
+        }
+        Judgement::Refused(refusal) => {
+            reader::clear(out);
+            WriteAnswer::Refused(refusal)
+        }
+    }
+}
+
+// The requirements' number of an answer.
+pub fn answer_number(answer: WriteAnswer) -> u32
+    ensures { λ r. ⌜ r ≡ numberOf answer ⌝ }
+{
+    match answer {
+        WriteAnswer::Accepted(_) => 0,
+        WriteAnswer::Refused(refusal) => match refusal {
+            WriteRefusal::LabelTooLong => 11,
+            WriteRefusal::NotALabel => 12,
+            WriteRefusal::NoData => 13,
+            WriteRefusal::DataTooLong => 14,
+        },
+        WriteAnswer::OutputTooSmall(_) => 10,
+    }
+}

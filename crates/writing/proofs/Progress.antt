@@ -1,0 +1,226 @@
+-- The lines of data as they are written, a group of four characters at a time. Assumes nothing.
+use mathlib.Core.Path.{_≡_, refl, sym, ap, _∙_}
+use mathlib.Core.Logic.{_≢_}
+use mathlib.Core.Bool.{Bool, true, false, cond}
+use mathlib.Core.List.{List, [], _∷_, _++_, append-assoc, append-nil}
+use Prim.Native.Nat.{ℕ, zero, suc, _+_, _-_, _%_, _≤_, _<_}
+use native.Mathlib.Omega.{arith}
+use native.Mathlib.Numerals.{add-one}
+use lib.Dec.{eqb}
+use lib.ListN.{length, take, drop, getD, replicate, length-append, length-drop, length-replicate}
+use lib.Seq.{take-all, drop-cons}
+use borrow.Author.Tests.{eqb-false, eq-eqb, ne-eqb}
+use Rattle.base64.specs.Groups.{encode}
+use Rattle.grammar.specs.Marks.{begin, end, hyphens}
+use Rattle.grammar.specs.Grammars.{lineChars}
+use Rattle.writing.specs.Text.{lineEnd, inLines, writtenText}
+use Rattle.writing.specs.declared.Cursor.{Cursor}
+use Rattle.writing.proofs.Placed.{placed, placed-zeros, Put, put-none, put-more}
+
+-- A group's characters.
+abbrev pub groupChars : ℕ
+groupChars = 4
+
+-- A line that has room for whole groups.
+abbrev pub WholeGroups : ℕ → Type 0
+WholeGroups room = (room % groupChars ≡ 0) × (room ≤ lineChars)
+
+-- Before a further character: a full line ends, and another begins.
+abbrev pub lineBreak : ℕ → List ℕ
+lineBreak room = cond (eqb room 0) lineEnd []
+
+abbrev pub roomThen : ℕ → ℕ
+roomThen room = cond (eqb room 0) lineChars room
+
+-- A group, on a new line where the line is full.
+abbrev pub groupText : ℕ → List ℕ → List ℕ
+groupText room group = lineBreak room ++ group
+
+-- The line is full, or it is not.
+pub full-break : (room : ℕ) → room ≡ 0 → (lineEnd ≡ lineBreak room) × (lineChars ≡ roomThen room)
+full-break room e = rw (eq-eqb room 0 e) (refl, refl)
+
+pub no-break : (room : ℕ) → room ≢ 0 → ([] ≡ lineBreak room) × (room ≡ roomThen room)
+no-break room n = rw (ne-eqb room 0 n) (refl, refl)
+
+-- There is room for a group then.
+pub group-fits : (room : ℕ) → WholeGroups room → groupChars ≤ roomThen room
+group-fits room h = go (eqb room 0) refl
+  where
+    go : (b : Bool) → eqb room 0 ≡ b → groupChars ≤ cond b lineChars room
+    go true e = omega arith
+    go false e = omega (arith, eqb-false room 0 e)
+
+-- A boundary with its line end.
+abbrev pub boundaryLine : List ℕ → List ℕ → List ℕ
+boundaryLine word label = word ++ (label ++ (hyphens ++ lineEnd))
+
+pub boundary-length : (word label : List ℕ) → length (boundaryLine word label) ≡ length word + (length label + 6)
+boundary-length word label = omega (arith, length-append word (label ++ (hyphens ++ lineEnd)), length-append label (hyphens ++ lineEnd))
+
+-- The text is the opening's line, the lines of the data and the closing's line.
+pub text-lines : (label content : List ℕ)
+    → writtenText label content ≡ boundaryLine begin label ++ (inLines lineChars (encode content) ++ boundaryLine end label)
+text-lines label content = simp append-assoc
+
+-- ---- lines by groups
+
+group-lines : (room a b c d : ℕ) (l : List ℕ) → WholeGroups room
+    → (inLines room (a ∷ b ∷ c ∷ d ∷ l) ≡ groupText room (a ∷ b ∷ c ∷ d ∷ []) ++ inLines (roomThen room - groupChars) l) × WholeGroups (roomThen room - groupChars)
+unfolding inLines
+group-lines zero a b c d l h = (refl, omega arith)
+group-lines (suc zero) a b c d l h = absurd (omega arith)
+group-lines (suc (suc zero)) a b c d l h = absurd (omega arith)
+group-lines (suc (suc (suc zero))) a b c d l h = absurd (omega arith)
+group-lines (suc (suc (suc (suc room)))) a b c d l h =
+    let left : room ≡ suc (suc (suc (suc room))) - 4 = omega arith in
+    let some : eqb (suc (suc (suc (suc room)))) 0 ≡ false = ne-eqb (suc (suc (suc (suc room)))) 0 (λ e. omega arith) in
+    rw some (ap (λ (n : ℕ). a ∷ b ∷ c ∷ d ∷ inLines n l) left, omega arith)
+
+-- The bytes from a place on: three of them and the others, or all as a part.
+pub three-dropped : (d : List ℕ) (i : ℕ) → i + 2 < length d
+    → drop i d ≡ getD d i 0 ∷ getD d (i + 1) 0 ∷ getD d (i + 2) 0 ∷ drop (i + 3) d
+three-dropped d i h =
+    let two : i + 2 ≡ suc (suc i) = omega arith in
+    let three : i + 3 ≡ suc (suc (suc i)) = omega arith in
+    rw (add-one, two, three)
+    (drop-cons d i 0 (omega arith)
+    ∙ ap (λ (r : List ℕ). getD d i 0 ∷ r) (drop-cons d (suc i) 0 (omega arith) ∙ ap (λ (r : List ℕ). getD d (suc i) 0 ∷ r) (drop-cons d (suc (suc i)) 0 (omega arith))))
+
+pub rest-part : (d : List ℕ) (i : ℕ) → take (length d - i) (drop i d) ≡ drop i d
+rest-part d i = take-all (length d - i) (drop i d) (omega (arith, length-drop i d))
+
+-- ---- the output on its way to the lines of data
+
+-- Some of the lines of data stand in the output from `from` on, up to the cursor; the others are to come from the bytes from i on.
+pub record Lined (content old : List ℕ) (from : ℕ) (out : List ℕ) (p : Cursor) (i : ℕ) : Type 0 where
+  pub done : List ℕ
+  pub others : inLines lineChars (encode content) ≡ done ++ inLines (p .room) (encode (drop i content))
+  pub written : Put old from done out (p .at)
+  pub room : WholeGroups (p .room)
+
+pub lined-none : (content old : List ℕ) (from : ℕ) → Lined content old from old record { at = from; room = lineChars } 0
+lined-none content old from = record { done = []; others = refl; written = put-none old from; room = omega arith }
+
+module _ {content old : List ℕ} {from : ℕ} {out : List ℕ} {p : Cursor} {i : ℕ} (w : Lined content old from out p i)
+    (fits : from + length (inLines lineChars (encode content)) ≤ length old) where
+  -- What is still to come has room behind the cursor.
+  pub lined-room : p .at + length (inLines (p .room) (encode (drop i content))) ≤ length old
+  lined-room = omega (arith, w .written .ends, ap length (w .others) ∙ length-append (w .done) (inLines (p .room) (encode (drop i content))))
+
+  -- What is still to come is written too.
+  pub lined-all : {new : List ℕ} {end : ℕ} → Put out (p .at) (inLines (p .room) (encode (drop i content))) new end
+      → Put old from (inLines lineChars (encode content)) new end
+  lined-all {new} {end} q =
+      rw (w .others) (put-more (w .done) (inLines (p .room) (encode (drop i content))) (w .written) q (rw (w .others) at fits))
+
+  -- Three bytes are to come: their group has room, and behind it are the others.
+  module _ (x y z j : ℕ) (dropped : drop i content ≡ x ∷ y ∷ z ∷ drop j content) (group : List ℕ) (isGroup : group ≡ encode (x ∷ y ∷ z ∷ [])) where
+    group-others : inLines lineChars (encode content)
+        ≡ (w .done ++ groupText (p .room) group) ++ inLines (roomThen (p .room) - groupChars) (encode (drop j content))
+    group-others =
+        w .others
+        ∙ ap (λ (l : List ℕ). w .done ++ inLines (p .room) (encode l)) dropped
+        ∙ ap (λ (l : List ℕ). w .done ++ l) (group-lines (p .room) _ _ _ _ (encode (drop j content)) (w .room) .0)
+        ∙ ap (λ (g : List ℕ). w .done ++ (groupText (p .room) g ++ inLines (roomThen (p .room) - groupChars) (encode (drop j content)))) (sym isGroup)
+        ∙ sym (append-assoc (w .done) (groupText (p .room) group) _)
+
+    group-short : from + length (w .done ++ groupText (p .room) group) ≤ length old
+    group-short = omega (arith, fits, ap length group-others ∙ length-append (w .done ++ groupText (p .room) group) _)
+
+    pub group-room : p .at + length (groupText (p .room) group) ≤ length old
+    group-room = omega (arith, w .written .ends, group-short, length-append (w .done) (groupText (p .room) group))
+
+    pub lined-next : {new : List ℕ} {q : Cursor} → Put out (p .at) (groupText (p .room) group) new (q .at)
+        → q .room ≡ roomThen (p .room) - groupChars → Lined content old from new q j
+    lined-next {new} {q} put r = record {
+      done = w .done ++ groupText (p .room) group;
+      others = rw r group-others;
+      written = put-more (w .done) (groupText (p .room) group) (w .written) put group-short;
+      room = rw r (group-lines (p .room) 0 0 0 0 [] (w .room) .1);
+    }
+
+-- ---- the last line
+
+one-element : (l : List ℕ) → length l ≡ 1 → l ≡ getD l 0 0 ∷ []
+one-element [] h = absurd (omega arith)
+one-element (a ∷ []) h = refl
+one-element (a ∷ b ∷ l) h = absurd (omega arith)
+
+two-elements : (l : List ℕ) → length l ≡ 2 → l ≡ getD l 0 0 ∷ getD l 1 0 ∷ []
+two-elements [] h = absurd (omega arith)
+two-elements (a ∷ []) h = absurd (omega arith)
+two-elements (a ∷ b ∷ []) h = refl
+two-elements (a ∷ b ∷ c ∷ l) h = absurd (omega arith)
+
+-- A last group of one or two bytes and the line end, or the line end alone.
+pub last-one : (room : ℕ) (rest group : List ℕ) → WholeGroups room → length rest ≡ 1 → group ≡ encode (getD rest 0 0 ∷ [])
+    → inLines room (encode rest) ≡ groupText room group ++ lineEnd
+unfolding inLines
+last-one room rest group h one isGroup =
+    ap (λ (l : List ℕ). inLines room (encode l)) (one-element rest one)
+    ∙ group-lines room _ _ _ _ [] h .0
+    ∙ ap (λ (g : List ℕ). groupText room g ++ lineEnd) (sym isGroup)
+
+pub last-two : (room : ℕ) (rest group : List ℕ) → WholeGroups room → length rest ≡ 2 → group ≡ encode (getD rest 0 0 ∷ getD rest 1 0 ∷ [])
+    → inLines room (encode rest) ≡ groupText room group ++ lineEnd
+unfolding inLines
+last-two room rest group h two isGroup =
+    ap (λ (l : List ℕ). inLines room (encode l)) (two-elements rest two)
+    ∙ group-lines room _ _ _ _ [] h .0
+    ∙ ap (λ (g : List ℕ). groupText room g ++ lineEnd) (sym isGroup)
+
+pub last-none : (room : ℕ) (rest : List ℕ) → length rest < 3 → length rest ≢ 1 → length rest ≢ 2 → inLines room (encode rest) ≡ lineEnd
+unfolding inLines
+last-none room [] few one two = refl
+last-none room (a ∷ []) few one two = absurd (one refl)
+last-none room (a ∷ b ∷ []) few one two = absurd (two refl)
+last-none room (a ∷ b ∷ c ∷ l) few one two = absurd (omega arith)
+
+module _ (room at : ℕ) (rest group old : List ℕ) (e : inLines room (encode rest) ≡ groupText room group ++ lineEnd)
+    (fits : at + length (inLines room (encode rest)) ≤ length old) where
+  pub last-room : at + length (groupText room group) + length lineEnd ≤ length old
+  last-room = omega (arith, fits, ap length e ∙ length-append (groupText room group) lineEnd)
+
+  pub last-put : {mid new : List ℕ} {next end : ℕ} → Put old at (groupText room group) mid next → Put mid next lineEnd new end
+      → Put old at (inLines room (encode rest)) new end
+  last-put p q = rw e (put-more (groupText room group) lineEnd p q (rw e at fits))
+
+-- ---- the whole text
+
+-- A boundary's line, part by part.
+pub boundary-put : (word label : List ℕ) {o0 o1 o2 o3 o4 : List ℕ} {at e1 e2 e3 e4 : ℕ} → at + length (boundaryLine word label) ≤ length o0
+    → length o1 ≡ length o0 → length o2 ≡ length o0
+    → Put o0 at word o1 e1 → Put o1 e1 label o2 e2 → Put o2 e2 hyphens o3 e3 → Put o3 e3 lineEnd o4 e4
+    → Put o0 at (boundaryLine word label) o4 e4
+boundary-put word label fits l1 l2 p1 p2 p3 p4 =
+    let whole = boundary-length word label in
+    put-more word (label ++ (hyphens ++ lineEnd)) p1
+    (put-more label (hyphens ++ lineEnd) p2
+    (put-more hyphens lineEnd p3 p4 (omega (arith, p1 .ends, p2 .ends)))
+    (omega (arith, p1 .ends, length-append label (hyphens ++ lineEnd))))
+    fits
+
+pub text-length : (label content : List ℕ)
+    → length (writtenText label content)
+    ≡ length (boundaryLine begin label) + (length (inLines lineChars (encode content)) + length (boundaryLine end label))
+text-length label content =
+    ap length (text-lines label content)
+    ∙ length-append (boundaryLine begin label) (inLines lineChars (encode content) ++ boundaryLine end label)
+    ∙ ap (λ (n : ℕ). length (boundaryLine begin label) + n) (length-append (inLines lineChars (encode content)) (boundaryLine end label))
+
+-- From zeros the text, and zeros behind it.
+pub text-put : (label content : List ℕ) (room : ℕ) {o0 o1 o2 o3 : List ℕ} {e1 e2 e3 : ℕ} → length (writtenText label content) ≤ room
+    → o0 ≡ replicate room 0 → length o1 ≡ length o0
+    → Put o0 0 (boundaryLine begin label) o1 e1 → Put o1 e1 (inLines lineChars (encode content)) o2 e2 → Put o2 e2 (boundaryLine end label) o3 e3
+    → o3 ≡ writtenText label content ++ replicate (room - length (writtenText label content)) 0
+text-put label content room {o0} {o1} {o2} {o3} {e1} {e2} {e3} fits zeros l1 p1 p2 p3 =
+    let lines : List ℕ = inLines lineChars (encode content) in
+    let whole = text-length label content in
+    let size : length o0 ≡ room = ap length zeros ∙ length-replicate room 0 in
+    let same = text-lines label content in
+    let behind : Put o1 e1 (lines ++ boundaryLine end label) o3 e3 =
+    put-more lines (boundaryLine end label) p2 p3 (omega (arith, p1 .ends, length-append lines (boundaryLine end label))) in
+    let all : Put o0 0 (boundaryLine begin label ++ (lines ++ boundaryLine end label)) o3 e3 =
+    put-more (boundaryLine begin label) (lines ++ boundaryLine end label) p1 behind (omega (arith, ap length same)) in
+    all .output ∙ (λ i. placed (zeros i) 0 (sym same i)) ∙ placed-zeros room (writtenText label content)
