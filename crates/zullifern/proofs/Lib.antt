@@ -1,1 +1,2 @@
--- Facts about the files of specs/. Assumes nothing.
+-- Demand 3, and that the functions meet their contracts. Assumes nothing.
+pub mod Demand3

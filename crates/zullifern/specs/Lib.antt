@@ -1,2 +1,3 @@
 -- The door of the library. Assumes nothing.
 pub mod Reports
+pub mod Demand3

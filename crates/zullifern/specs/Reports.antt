@@ -12,7 +12,8 @@ use Rattle.reading.specs.declared.ReadAnswer.the-variants as answer
 use Rattle.reading.specs.declared.Refusal.{Refusal}
 use Rattle.indexing.specs.Answers as indexed
 use Rattle.indexing.specs.declared.IndexAnswer.{IndexAnswer}
-use Rattle.indexing.specs.declared.TableSize.{TableSize}
+use Rattle.writing.specs.Answers as wrote
+use Rattle.writing.specs.declared.WriteAnswer.{WriteAnswer}
 
 abbrev pub report : (number place size at length : ℕ) → List ℕ
 report number place size at length = number ∷ place ∷ size ∷ at ∷ length ∷ 0 ∷ 0 ∷ 0 ∷ []
@@ -39,8 +40,12 @@ labelReport text number = judgedReport (judgeOf text number)
 abbrev pub indexReport : IndexAnswer → List ℕ
 indexReport a = report (indexed.numberOf a) (indexed.placeOf a) (indexed.sizeOf a) 0 0
 
-abbrev pub sizeReport : ℕ → TableSize → List ℕ
-sizeReport number size = report number 0 (size .0) 0 0
+-- The numbers of an answer of the write call: it has no label either.
+abbrev pub writeReport : WriteAnswer → List ℕ
+writeReport a = report (wrote.numberOf a) (wrote.placeOf a) (wrote.sizeOf a) 0 0
+
+abbrev pub sizeReport : ℕ → ℕ → List ℕ
+sizeReport number size = report number 0 size 0 0
 
 -- The part of a text that slots 3 and 4 name.
 abbrev pub reportedPart : List ℕ → List ℕ → List ℕ

@@ -10,13 +10,16 @@ ghost use Rattle.reading.specs.Read.{readOf, outputOf};
 ghost use Rattle.indexing.specs.Answers as indexed;
 ghost use Rattle.indexing.specs.Meaning.{Indexes};
 ghost use Rattle.indexing.specs.Index.{indexOf, lentTable};
-ghost use Rattle.zullifern.specs.Reports.{readReport, refusalReport, foundReport, labelReport, judgedReport, reportedPart, sizeReport, indexReport};
+ghost use Rattle.writing.specs.Answers as wrote;
+ghost use Rattle.writing.specs.Meaning.{Writes};
+ghost use Rattle.writing.specs.Write.{writeOf, writeOutput};
+ghost use Rattle.zullifern.specs.Reports.{readReport, refusalReport, foundReport, labelReport, judgedReport, reportedPart, sizeReport, indexReport, writeReport};
 use indexing::IndexAnswer;
-use indexing::TableSize;
 use reading::Found;
 use reading::Judgement;
 use reading::ReadAnswer;
 use reading::Refusal;
+use writing::WriteAnswer;
 
 // The report of a refusal 1 to 9.
 fn refusal_report(refusal: Refusal) -> [u64; 8]
@@ -79,11 +82,11 @@ fn label_report(judgement: Judgement) -> [u64; 8]
     }
 }
 
-// The report of a bundle that was found, under the number 0 or 10.
-fn size_report(number: u64, size: TableSize) -> [u64; 8]
+// The report of an answer that has no place and no label.
+fn size_report(number: u64, size: usize) -> [u64; 8]
     ensures { λ r. ⌜ r ≡ sizeReport number size ⌝ }
 {
-    [number, 0, size.0 as u64, 0, 0, 0, 0, 0]
+    [number, 0, size as u64, 0, 0, 0, 0, 0]
 }
 
 // The report of what `index` answers.
@@ -91,9 +94,20 @@ fn index_report(answer: IndexAnswer) -> [u64; 8]
     ensures { λ r. ⌜ r ≡ indexReport answer ⌝ }
 {
     match answer {
-        IndexAnswer::Accepted(size) => size_report(0, size),
+        IndexAnswer::Accepted(size) => size_report(0, size.0),
         IndexAnswer::Refused(refusal) => refusal_report(refusal),
-        IndexAnswer::TableTooSmall(size) => size_report(10, size),
+        IndexAnswer::TableTooSmall(size) => size_report(10, size.0),
+    }
+}
+
+// The report of what `write` answers.
+fn write_report(answer: WriteAnswer) -> [u64; 8]
+    ensures { λ r. ⌜ r ≡ writeReport answer ⌝ }
+{
+    match answer {
+        WriteAnswer::Accepted(size) => size_report(0, size.0),
+        WriteAnswer::Refused(_) => size_report(writer::answer_number(answer) as u64, 0),
+        WriteAnswer::OutputTooSmall(size) => size_report(10, size.0),
     }
 }
 
@@ -145,4 +159,20 @@ pub extern "C" fn zullifern_index(
     let answer = index::index(text, grammar, table);
     put_report(index_report(answer), report);
     index::answer_number(answer)
+}
+
+// Writes the strict text with LF line ends of a label and data, and answers the number. After 0 the output holds the text and
+// then zeros, after anything else zeros only, whatever it held before.
+#[no_mangle]
+pub extern "C" fn zullifern_write(
+    label: &[u8],
+    content: &[u8],
+    out: &mut [u8],
+    report: &mut [u64; 8],
+) -> u32
+    ensures { λ r. ⌜ (r ≡ wrote.numberOf (writeOf (now (label .entry)) (now (content .entry)) (length (now (out .entry))))) × (now (report .exit) ≡ writeReport (writeOf (now (label .entry)) (now (content .entry)) (length (now (out .entry))))) × (now (out .exit) ≡ writeOutput (now (label .entry)) (now (content .entry)) (length (now (out .entry)))) × Writes (now (label .entry)) (now (content .entry)) (length (now (out .entry))) (writeOf (now (label .entry)) (now (content .entry)) (length (now (out .entry)))) (now (out .exit)) ⌝ }
+{
+    let answer = writer::write(label, content, out);
+    put_report(write_report(answer), report);
+    writer::answer_number(answer)
 }
