@@ -1,4 +1,5 @@
-"""The answers of the reader and of the index, worked out from the requirements paper by regular expressions.
+"""The answers of the reader and of the index, worked out from the requirements paper by regular expressions, and those of
+the writer.
 
 A grammar is an expression tree. From it two patterns for `re` are made: the pattern of its whole texts, and the pattern
 of their starts, by the rules
@@ -150,6 +151,7 @@ def starts(trees):
     return {g: re.compile(unnamed(t.start()).encode()) for g, t in trees.items()}
 
 
+LABEL = re.compile(label.whole().encode())
 WHOLE, LATER_WHOLE = wholes(GRAMMARS), wholes(LATER)
 START, BUNDLE_START = starts(GRAMMARS), starts(BUNDLES)
 OPENED = {
@@ -276,3 +278,27 @@ def index(t, g, room):
     if len(table) > room:
         return Answer(10, 0, len(table), out=zeros)
     return Answer(0, 0, len(table), out=table + [0] * (room - len(table)))
+
+
+def written(label, data):
+    """The strict text of a label and data, with LF line ends."""
+    chars = base64.b64encode(data)
+    lines = [chars[i:i + 64] for i in range(0, len(chars), 64)]
+    return b"\n".join([b"-----BEGIN " + label + b"-----", *lines, b"-----END " + label + b"-----", b""])
+
+
+def write(label, data, room):
+    """The answer of the write call for a label, data and a lent output of `room` bytes."""
+    zeros = bytes(room)
+    if len(label) > 64:
+        return Answer(11, out=zeros)
+    if LABEL.fullmatch(label) is None:
+        return Answer(12, out=zeros)
+    if len(data) == 0:
+        return Answer(13, out=zeros)
+    if len(data) > 32768:
+        return Answer(14, out=zeros)
+    text = written(label, data)
+    if len(text) > room:
+        return Answer(10, 0, len(text), out=zeros)
+    return Answer(0, 0, len(text), out=text + bytes(room - len(text)))

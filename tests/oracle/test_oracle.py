@@ -1,10 +1,11 @@
 """The oracle on the paper's samples, then against derivatives of the same grammars over whole line ends, and against a
-search of every way to cut a text into messages."""
+search of every way to cut a text into messages. The writer against the paper's size and against the reader."""
+import itertools
 import random
 from functools import lru_cache
 
 import oracle
-from oracle import index, read
+from oracle import index, read, write
 
 M = b"-----BEGIN A-----\nZg==\n-----END A-----\n"
 
@@ -329,4 +330,72 @@ for row in BUNDLES:
 for _ in range(6000):
     t = b"".join(random.choice(BASES) + random.choice(BETWEEN) for _ in range(random.randint(0, 4)))
     check_bundle(damaged(t, random.choice((0, 0, 1, 2))), len(t) < 130)
+
+
+def size(label, data):
+    """The length that the paper gives the written text."""
+    return 32 + 2 * len(label) + 4 * -(-len(data) // 3) + -(-len(data) // 48)
+
+
+def check_write(label, data):
+    """Label and data are written in the paper's size, given that room, and read back alike under each grammar."""
+    n = size(label, data)
+    for room in (0, n - 1):
+        a = write(label, data, room)
+        assert a.row() == (10, 0, n, 0, 0) and a.out == bytes(room), (label, len(data), room, a)
+    a = write(label, data, n)
+    assert a.row() == (0, 0, n, 0, 0) and len(a.out) == n, (label, len(data), a)
+    assert write(label, data, n + 9).out == a.out + bytes(9)
+    for g in (1, 2, 3):
+        b = read(a.out, g, len(data))
+        assert b.row() == (0, 0, len(data), 11, len(label)) and b.out == data, (label, len(data), g, b)
+        assert a.out[11:11 + len(label)] == label
+
+
+def check_restored(t):
+    """What a strict text reads as is written as that text, with LF for each of its line ends."""
+    a = read(t, 3, len(t))
+    if a.number == 0:
+        restored = b"\n".join(t.splitlines()) + b"\n"
+        assert write(t[a.label_at:a.label_at + a.label_len], a.out[:a.size], len(t)).out[:len(restored)] == restored, t
+
+
+def check_label(label):
+    """The writer takes what derivatives of the label accept."""
+    ok = by_derivatives(label, LABEL)[0]
+    assert write(label, F, 200).number == (0 if ok else 12), label
+
+
+assert write(b"A", F, 39).out == M
+assert size(b"L" * 64, bytes(32768)) == 44535
+check_write(b"L" * 64, bytes(range(256)) * 128)
+check_write(b"", bytes(range(255, -1, -1)) * 128)
+for n in range(1, 150):
+    for label in (b"", b"A", b"L" * 63, b"L" * 64):
+        check_write(label, random.randbytes(n))
+
+for label in (b" ", b"-", b" A", b"-A", b"A ", b"A-", b"A--B", b"A  B", b"A- B", b"A -B", b"A\tB", b"A\n", b"\r", b"\0",
+              b"A\0", b"\x7f", b"A\x80", b"\xff"):
+    assert write(label, F, 200).row() == (12, 0, 0, 0, 0), label
+for label in (b"", b"A-B", b"A B", b"A-B C-D", b"a", b"!", b",", b".", b"~", b"!,.~"):
+    assert write(label, F, 200).number == 0, label
+for k in range(256):
+    for label in (bytes([k]), bytes([65, k]), bytes([k, 65]), bytes([65, k, 66])):
+        check_label(label)
+for n in range(7):
+    for label in itertools.product(b"A- ~", repeat=n):
+        check_label(bytes(label))
+
+# The first of 11, 12, 13, 14 and 10 that applies, of all at once.
+for label, number in ((b"A" * 64 + b"-", 11), (b"A" * 65, 11), (b"A" * 63 + b"-", 12), (b"A", None)):
+    for data, later in ((b"", 13), (bytes(32769), 14), (bytes(32768), 10), (F, 10)):
+        for room in (0, 20, 38):
+            a, want = write(label, data, room), number or later
+            needed = size(label, data) if want == 10 else 0
+            assert a.row() == (want, 0, needed, 0, 0) and a.out == bytes(room), (label, len(data), room, a)
+
+for t in BASES:
+    for end in (b"\n", b"\r\n", b"\r"):
+        check_restored(t.replace(b"\n", end))
+        check_restored(damaged(t, 1).replace(b"\n", end))
 print("ok")
