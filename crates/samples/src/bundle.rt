@@ -1,8 +1,8 @@
 // The index call on one text, and the line that shows its answer.
-use crate::bytes;
-use crate::call;
-use crate::print;
 use crate::table;
+use sampling::bytes;
+use sampling::lent;
+use sampling::print;
 
 // What each number of a table is before a call.
 const STALE: u32 = 0xFFFFFFFF;
@@ -10,20 +10,28 @@ const STALE: u32 = 0xFFFFFFFF;
 // The index call on a table and a report that are not zero.
 fn call_index(text: &[u8], grammar: u32, lent: &mut [u32], report: &mut [u64; 8]) -> u32 {
     table::fill(lent, STALE);
-    *report = [call::UNSET; 8];
+    *report = [lent::UNSET; 8];
     zullifern::zullifern_index(text, grammar, lent, report)
 }
 
-// How many numbers of the table the answer has filled.
-fn filled(number: u32, report: &[u64; 8]) -> usize {
-    if number == 0 { report[2] as usize } else { 0 }
+fn entry(table: &[u32], at: usize) {
+    print::number(table::get(table, at) as u64);
+}
+
+// The first numbers of a table.
+fn table_numbers(table: &[u32], count: usize) {
+    let mut i = 0;
+    while i < count {
+        entry(table, i);
+        i += 1;
+    }
 }
 
 // Name, grammar and room; what the index call answers, and its report; the table; whether all behind it is zero.
 pub fn index(name: &[u8], text: &[u8], grammar: u32, lent: &mut [u32]) {
     let mut report = [0u64; 8];
     let number = call_index(text, grammar, lent, &mut report);
-    let size = filled(number, &report);
+    let size = lent::filled(number, &report);
     print::word(name);
     print::grammar(grammar);
     print::number(lent.len() as u64);
@@ -31,7 +39,7 @@ pub fn index(name: &[u8], text: &[u8], grammar: u32, lent: &mut [u32]) {
     print::number(number as u64);
     print::numbers(&report);
     print::word(b" table");
-    print::table_numbers(lent, size);
+    table_numbers(lent, size);
     print::clean(table::zero_from(lent, size));
     print::word(b"\n");
 }
@@ -49,7 +57,7 @@ fn outcome(text: &[u8], grammar: u32, lent: &mut [u32]) {
     print::number(number as u64);
     print::word(b" at");
     print::number(report[1]);
-    print::clean(table::zero_from(lent, filled(number, &report)));
+    print::clean(table::zero_from(lent, lent::filled(number, &report)));
 }
 
 // The outcome of the first bytes under each grammar, in one line.

@@ -1,15 +1,11 @@
 // The read call and the label call on one text, and the line that shows their answers.
-use crate::bytes;
-use crate::print;
-
-// What each number of a report and each byte of an output is before a call.
-pub const UNSET: u64 = 18446744073709551615;
-
-const STALE: u8 = 0xFF;
+use sampling::bytes;
+use sampling::lent;
+use sampling::print;
 
 // What the label call answers, and its report. On a refusal the offset of the empty part is left free, so it is not shown.
 fn label(text: &[u8], grammar: u32, refused: bool) {
-    let mut report = [UNSET; 8];
+    let mut report = [lent::UNSET; 8];
     let number = zullifern::zullifern_label(text, grammar, &mut report);
     if refused {
         report[3] = 0;
@@ -19,16 +15,18 @@ fn label(text: &[u8], grammar: u32, refused: bool) {
     print::numbers(&report);
 }
 
+// The read call on an output and a report that are not zero.
+fn call_read(text: &[u8], grammar: u32, out: &mut [u8], report: &mut [u64; 8]) -> u32 {
+    lent::unset(out, report);
+    zullifern::zullifern_read(text, grammar, out, report)
+}
+
 // Name, grammar and room; what the read call answers, and its report; the data; whether all behind it is zero; the same of
 // the label call.
 pub fn read(name: &[u8], text: &[u8], grammar: u32, out: &mut [u8]) {
-    bytes::fill(out, STALE);
-    let mut report = [UNSET; 8];
-    let number = zullifern::zullifern_read(text, grammar, out, &mut report);
-    let mut size = 0;
-    if number == 0 {
-        size = report[2] as usize;
-    }
+    let mut report = [0u64; 8];
+    let number = call_read(text, grammar, out, &mut report);
+    let size = lent::filled(number, &report);
     print::word(name);
     print::grammar(grammar);
     print::number(out.len() as u64);
@@ -49,13 +47,12 @@ pub fn read_each(name: &[u8], text: &[u8], out: &mut [u8]) {
 
 // The number and the place, and whether all behind the data is zero.
 fn outcome(text: &[u8], grammar: u32, out: &mut [u8]) {
-    bytes::fill(out, STALE);
-    let mut report = [UNSET; 8];
-    let number = zullifern::zullifern_read(text, grammar, out, &mut report);
+    let mut report = [0u64; 8];
+    let number = call_read(text, grammar, out, &mut report);
     print::number(number as u64);
     print::word(b" at");
     print::number(report[1]);
-    print::clean(bytes::zero_from(out, report[2] as usize));
+    print::clean(bytes::zero_from(out, lent::filled(number, &report)));
 }
 
 // The outcome under each grammar, in one line.

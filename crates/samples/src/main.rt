@@ -3,17 +3,16 @@
 // A sample is a mode, a name, the room of the output or the table and a count, each with ':' behind it, and a text. It stands
 // between '@' and the next '@'. For the read call and the label call the mode is "each" (a line for each grammar), "brief"
 // (one line for all three) or a grammar's number. For the index call it is "index" (a line for each grammar), "table" with a
-// grammar's number behind it, or "starts" (one line for every start of the text). "#" is a comment. In the text '$' is LF,
-// '%' CR, '&' HT, '(' VT, ')' FF, '?' DEL and '^' 0xFF; what stands in braces is there as many times as the count says, and
-// line ends are only for the eye.
+// grammar's number behind it, or "starts" (one line for every start of the text). "#" is a comment. The text is in the printable
+// form of `sampling::expand`, the count being that of its braces.
 mod bundle;
-mod bytes;
 mod call;
-mod expand;
-mod print;
 mod table;
 
 use libc::STDIN_FILENO;
+use sampling::bytes;
+use sampling::expand;
+use sampling::fields;
 
 const TEXT_SIZE: usize = 65537;
 
@@ -22,31 +21,6 @@ const OUT_SIZE: usize = 49152;
 // 1 + 5 * 2184 numbers: a text has at most 2184 messages, each of 30 bytes or more.
 const TABLE_SIZE: usize = 10921;
 
-// The index behind the first `mark` from `start` on, or the length.
-fn behind(form: &[u8], start: usize, mark: u8) -> usize {
-    let mut i = start;
-    while i < form.len() {
-        if form[i] == mark {
-            return i + 1;
-        }
-        i += 1;
-    }
-    i
-}
-
-// The number that the digits of a word spell; its ':' is none.
-fn number(word: &[u8]) -> u32 {
-    let mut value: u64 = 0;
-    let mut i = 0;
-    while i < word.len() {
-        if word[i] <= b'9' {
-            value = (value * 10 + print::wide(word[i]) % 16) % 4294967296;
-        }
-        i += 1;
-    }
-    value as u32
-}
-
 fn run(mode: &[u8], name: &[u8], text: &[u8], out: &mut [u8], table: &mut [u32]) {
     match bytes::get(mode, 0) {
         b'#' => (),
@@ -54,20 +28,20 @@ fn run(mode: &[u8], name: &[u8], text: &[u8], out: &mut [u8], table: &mut [u32])
         b'b' => call::outcomes(name, text, out),
         b'i' => bundle::index_each(name, text, table),
         b's' => bundle::starts(name, text, table),
-        b't' => bundle::index(name, text, number(mode), table),
-        _ => call::read(name, text, number(mode), out),
+        b't' => bundle::index(name, text, fields::number(mode), table),
+        _ => call::read(name, text, fields::number(mode), out),
     }
 }
 
 // One sample, without its first '@'.
 fn sample(form: &[u8], text: &mut [u8], out: &mut [u8], table: &mut [u32]) {
-    let mode = behind(form, 0, b':');
-    let name = behind(form, mode, b':');
-    let room = behind(form, name, b':');
-    let count = behind(form, room, b':');
-    let times = number(bytes::part(form, room, count));
+    let mode = fields::behind(form, 0, b':');
+    let name = fields::behind(form, mode, b':');
+    let room = fields::behind(form, name, b':');
+    let count = fields::behind(form, room, b':');
+    let times = fields::number(bytes::part(form, room, count));
     let length = expand::expand(bytes::part(form, count, form.len()), times, text);
-    let lent = number(bytes::part(form, name, room)) as usize;
+    let lent = fields::number(bytes::part(form, name, room)) as usize;
     run(
         bytes::part(form, 0, mode),
         bytes::part(form, mode, name),
@@ -80,8 +54,8 @@ fn sample(form: &[u8], text: &mut [u8], out: &mut [u8], table: &mut [u32]) {
 // The sample whose '@' stands at `i`, if one does.
 fn sample_at(forms: &[u8], i: usize, text: &mut [u8], out: &mut [u8], table: &mut [u32]) {
     if bytes::get(forms, i) == b'@' {
-        let start = behind(forms, i, b'@');
-        let end = behind(forms, start, b'@');
+        let start = fields::behind(forms, i, b'@');
+        let end = fields::behind(forms, start, b'@');
         sample(bytes::part(forms, start, end), text, out, table);
     }
 }

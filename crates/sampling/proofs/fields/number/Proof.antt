@@ -1,11 +1,11 @@
--- `samples::number` is safe and ends: the value stays below 2 to the 32. Assumes nothing.
+-- `sampling::fields::number` is safe and ends: the value stays below 2 to the 32. Assumes nothing.
 use mathlib.Core.Logic.{⊎-elim}
 use native.Mathlib.Omega.{arith}
 use lib.ListN.{length}
 use Prim.Native.Nat.{_≤_, _<_, _-_, _^_}
 use borrow.Author.Needs.{needs}
-use Rattle.samples.proofs.number.Statement.{statement}
-use Rattle.samples.proofs.number.Tie as tie
+use Rattle.sampling.proofs.fields.number.Statement.{statement}
+use Rattle.sampling.proofs.fields.number.Tie as tie
 
 abbrev Inv-loop : tie.InvT-loop
 Inv-loop word value₀ i₀ value i = (i ≤ length word) × (value < 2 ^ 32)

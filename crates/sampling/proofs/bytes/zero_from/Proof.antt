@@ -1,9 +1,9 @@
--- `samples::bytes::zero_from` is safe and ends: each byte read is there. Assumes nothing.
+-- `sampling::bytes::zero_from` is safe and ends: each byte read is there. Assumes nothing.
 use lib.ListN.{length}
 use Prim.Native.Nat.{_-_}
 use borrow.Author.Needs.{needs}
-use Rattle.samples.proofs.bytes.zero_from.Statement.{statement}
-use Rattle.samples.proofs.bytes.zero_from.Tie as tie
+use Rattle.sampling.proofs.bytes.zero_from.Statement.{statement}
+use Rattle.sampling.proofs.bytes.zero_from.Tie as tie
 
 abbrev Inv-loop : tie.InvT-loop
 Inv-loop bytes start i₀ i = Unit {0}

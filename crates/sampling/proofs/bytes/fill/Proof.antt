@@ -1,10 +1,10 @@
--- `samples::bytes::fill` is safe and ends: the slice keeps its length. Assumes nothing.
+-- `sampling::bytes::fill` is safe and ends: the slice keeps its length. Assumes nothing.
 use mathlib.Core.Path.{_≡_}
 use lib.ListN.{length}
 use Prim.Native.Nat.{_≤_, _-_}
 use borrow.Author.Needs.{needs}
-use Rattle.samples.proofs.bytes.fill.Statement.{statement}
-use Rattle.samples.proofs.bytes.fill.Tie as tie
+use Rattle.sampling.proofs.bytes.fill.Statement.{statement}
+use Rattle.sampling.proofs.bytes.fill.Tie as tie
 
 abbrev Inv-loop : tie.InvT-loop
 Inv-loop bytes₀ byte i₀ bytes i = (i ≤ length bytes) × (length bytes ≡ length bytes₀)

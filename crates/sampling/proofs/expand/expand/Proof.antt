@@ -1,10 +1,10 @@
--- `samples::expand::expand` is safe and ends: each byte read is there, and the buffer keeps its length. Assumes nothing.
+-- `sampling::expand::expand` is safe and ends: each byte read is there, and the buffer keeps its length. Assumes nothing.
 use mathlib.Core.Path.{_≡_}
 use lib.ListN.{length}
 use Prim.Native.Nat.{_≤_, _-_}
 use borrow.Author.Needs.{needs}
-use Rattle.samples.proofs.expand.expand.Statement.{statement}
-use Rattle.samples.proofs.expand.expand.Tie as tie
+use Rattle.sampling.proofs.expand.expand.Statement.{statement}
+use Rattle.sampling.proofs.expand.expand.Tie as tie
 
 abbrev Inv-loop : tie.InvT-loop
 Inv-loop form count text₀ end₀ unit₀ i₀ text end unit i = (i ≤ length form) × (length text ≡ length text₀)

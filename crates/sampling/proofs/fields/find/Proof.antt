@@ -1,9 +1,9 @@
--- `samples::behind` is safe and ends: each byte read is there. Assumes nothing.
+-- `sampling::fields::find` is safe and ends: each byte read is there. Assumes nothing.
 use lib.ListN.{length}
 use Prim.Native.Nat.{_-_}
 use borrow.Author.Needs.{needs}
-use Rattle.samples.proofs.behind.Statement.{statement}
-use Rattle.samples.proofs.behind.Tie as tie
+use Rattle.sampling.proofs.fields.find.Statement.{statement}
+use Rattle.sampling.proofs.fields.find.Tie as tie
 
 abbrev Inv-loop : tie.InvT-loop
 Inv-loop form start mark i₀ i = Unit {0}
@@ -16,9 +16,6 @@ loop-holds c = search needs
 
 shared-slice-read-if1 : tie.Need-shared-slice-read-if1 Inv-loop μ-loop
 shared-slice-read-if1 c = search needs
-
-add-result : tie.Need-add-result Inv-loop μ-loop
-add-result c = search needs
 
 returns : tie.Need-returns Inv-loop μ-loop
 returns c = search needs
@@ -35,15 +32,14 @@ loop-again c = search needs
 returns-2 : tie.Need-returns-2 Inv-loop μ-loop
 returns-2 c = search needs
 
-pub behind-spec : {M : Type 1} → statement M
-behind-spec =
+pub find-spec : {M : Type 1} → statement M
+find-spec =
     tie.close
     (tie.spec
     Inv-loop
     μ-loop
     loop-holds
     shared-slice-read-if1
-    add-result
     returns
     add-i
     loop-less

@@ -1,15 +1,15 @@
--- `samples::print::hex` is safe and ends: each byte read is there. Assumes nothing.
+-- `sampling::print::adler32` is safe and ends: both sums stay below the prime. Assumes nothing.
 use lib.ListN.{length}
-use Prim.Native.Nat.{_≤_, _-_}
+use Prim.Native.Nat.{_≤_, _<_, _-_}
 use borrow.Author.Needs.{needs}
-use Rattle.samples.proofs.print.hex.Statement.{statement}
-use Rattle.samples.proofs.print.hex.Tie as tie
+use Rattle.sampling.proofs.print.adler32.Statement.{statement}
+use Rattle.sampling.proofs.print.adler32.Tie as tie
 
 abbrev Inv-loop : tie.InvT-loop
-Inv-loop bytes i₀ i = i ≤ length bytes
+Inv-loop bytes a₀ b₀ i₀ a b i = (i ≤ length bytes) × (a < 65521) × (b < 65521)
 
 abbrev μ-loop : tie.MeasureT-loop
-μ-loop bytes i₀ i = length bytes - i
+μ-loop bytes a₀ b₀ i₀ a b i = length bytes - i
 
 loop-holds : tie.Need-loop-holds Inv-loop μ-loop
 loop-holds c = search needs
@@ -20,8 +20,11 @@ shared-slice-read-wide c = search needs
 wide-requires : tie.Need-wide-requires Inv-loop μ-loop
 wide-requires c κs = search needs
 
-print-hex-requires : tie.Need-print-hex-requires Inv-loop μ-loop
-print-hex-requires c κs = search needs
+add-a : tie.Need-add-a Inv-loop μ-loop
+add-a c = search needs
+
+add-b : tie.Need-add-b Inv-loop μ-loop
+add-b c = search needs
 
 add-i : tie.Need-add-i Inv-loop μ-loop
 add-i c = search needs
@@ -32,11 +35,17 @@ loop-less c = search needs
 loop-again : tie.Need-loop-again Inv-loop μ-loop
 loop-again c = search needs
 
+mul-result : tie.Need-mul-result Inv-loop μ-loop
+mul-result c = search needs
+
+add-result : tie.Need-add-result Inv-loop μ-loop
+add-result c = search needs
+
 returns : tie.Need-returns Inv-loop μ-loop
 returns c = search needs
 
-pub hex-spec : {M : Type 1} → statement M
-hex-spec =
+pub adler32-spec : {M : Type 1} → statement M
+adler32-spec =
     tie.close
     (tie.spec
     Inv-loop
@@ -44,8 +53,11 @@ hex-spec =
     loop-holds
     shared-slice-read-wide
     wide-requires
-    print-hex-requires
+    add-a
+    add-b
     add-i
     loop-less
     loop-again
+    mul-result
+    add-result
     returns)

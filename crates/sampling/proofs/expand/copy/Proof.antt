@@ -1,10 +1,10 @@
--- `samples::expand::copy` is safe and ends: what is left of the part falls, and the buffer keeps its length. Assumes nothing.
+-- `sampling::expand::copy` is safe and ends: what is left of the part falls, and the buffer keeps its length. Assumes nothing.
 use mathlib.Core.Path.{_≡_}
 use lib.ListN.{length}
 use Prim.Native.Nat.{_-_}
 use borrow.Author.Needs.{needs}
-use Rattle.samples.proofs.expand.copy.Statement.{statement}
-use Rattle.samples.proofs.expand.copy.Tie as tie
+use Rattle.sampling.proofs.expand.copy.Statement.{statement}
+use Rattle.sampling.proofs.expand.copy.Tie as tie
 
 abbrev Inv-loop : tie.InvT-loop
 Inv-loop text₀ start end at next₀ i₀ text next i = length text ≡ length text₀

@@ -1,10 +1,10 @@
--- `samples::expand::repeat` is safe and ends: what is left of the count falls, and the buffer keeps its length. Assumes nothing.
+-- `sampling::expand::repeat` is safe and ends: what is left of the count falls, and the buffer keeps its length. Assumes nothing.
 use mathlib.Core.Path.{_≡_}
 use lib.ListN.{length}
 use Prim.Native.Nat.{_-_}
 use borrow.Author.Needs.{needs}
-use Rattle.samples.proofs.expand.repeat.Statement.{statement}
-use Rattle.samples.proofs.expand.repeat.Tie as tie
+use Rattle.sampling.proofs.expand.repeat.Statement.{statement}
+use Rattle.sampling.proofs.expand.repeat.Tie as tie
 
 abbrev Inv-loop : tie.InvT-loop
 Inv-loop text₀ start end count next₀ k₀ text next k = length text ≡ length text₀

@@ -1,6 +1,5 @@
 // What a line is made of. Each part but the name has a space before it.
 ghost use Prim.Native.Nat.{_≤_};
-use crate::table;
 use libc::STDOUT_FILENO;
 
 // The most bytes of data that are printed one by one.
@@ -21,19 +20,6 @@ pub fn number(n: u64) {
 pub fn numbers(report: &[u64; 8]) {
     for i in 0usize..8 {
         number(report[i]);
-    }
-}
-
-fn entry(table: &[u32], at: usize) {
-    number(table::get(table, at) as u64);
-}
-
-// The first numbers of a table.
-pub fn table_numbers(table: &[u32], count: usize) {
-    let mut i = 0;
-    while i < count {
-        entry(table, i);
-        i += 1;
     }
 }
 

@@ -1,8 +1,8 @@
--- `samples::print::numbers` is safe and ends: `i` counts up to 8. Assumes nothing.
+-- `sampling::print::numbers` is safe and ends: `i` counts up to 8. Assumes nothing.
 use Prim.Native.Nat.{_≤_, _-_}
 use borrow.Author.Needs.{needs}
-use Rattle.samples.proofs.print.numbers.Statement.{statement}
-use Rattle.samples.proofs.print.numbers.Tie as tie
+use Rattle.sampling.proofs.print.numbers.Statement.{statement}
+use Rattle.sampling.proofs.print.numbers.Tie as tie
 
 abbrev Inv-loop : tie.InvT-loop
 Inv-loop report i₀ i = i ≤ 8

@@ -1,4 +1,5 @@
-// A text from its printable form.
+// A text from its printable form. There '$' is LF, '%' CR, '&' HT, '(' VT, ')' FF, '?' DEL and '^' 0xFF; what stands in
+// braces is there as many times as a count says, and line ends are only for the eye.
 use crate::bytes;
 
 // The byte that a character of the printable form stands for.

@@ -1,8 +1,8 @@
--- `samples::print::table_numbers` is safe and ends: what is left of the count falls. Assumes nothing.
+-- `samples::bundle::table_numbers` is safe and ends: what is left of the count falls. Assumes nothing.
 use Prim.Native.Nat.{_-_}
 use borrow.Author.Needs.{needs}
-use Rattle.samples.proofs.print.table_numbers.Statement.{statement}
-use Rattle.samples.proofs.print.table_numbers.Tie as tie
+use Rattle.samples.proofs.bundle.table_numbers.Statement.{statement}
+use Rattle.samples.proofs.bundle.table_numbers.Tie as tie
 
 abbrev Inv-loop : tie.InvT-loop
 Inv-loop table count i₀ i = Unit {0}
