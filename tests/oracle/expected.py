@@ -6,23 +6,7 @@ import sys
 import zlib
 
 import oracle
-
-MARKS = {"$": 10, "%": 13, "&": 9, "(": 11, ")": 12, "?": 127, "^": 255}
-NAMES = {1: "lax", 2: "standard", 3: "strict"}
-
-
-def text_of(form, count):
-    """The text of a printable form."""
-    form = form.replace("\n", "")
-    if "{" in form:
-        before, rest = form.split("{")
-        unit, behind = rest.split("}")
-        form = before + unit * count + behind
-    return bytes(MARKS.get(c, ord(c)) for c in form)
-
-
-def numbers(values):
-    return " ".join(str(v) for v in values)
+from forms import GRAMMARS, numbers, samples, text_of
 
 
 def line(name, t, g, room):
@@ -36,7 +20,7 @@ def line(name, t, g, room):
         assert label == (a.label_at, a.label_len)
     at, length = label or (0, 0)
     return "%s: %s %d read %d %s %s clean label %s" % (
-        name, NAMES.get(g, g), room, a.number, numbers(a.row() + (0, 0, 0)), shown,
+        name, GRAMMARS.get(g, g), room, a.number, numbers(a.row() + (0, 0, 0)), shown,
         numbers((0, 0, 0, 0, at, length, 0, 0, 0)))
 
 
@@ -49,7 +33,7 @@ def index_line(name, t, g, room):
     a = oracle.index(t, g, room)
     size = a.size if a.number == 0 else 0
     assert len(a.out) == room and not any(a.out[size:])
-    words = [name + ":", NAMES.get(g, g), room, "index", a.number, *a.row(), 0, 0, 0, "table", *a.out[:size], "clean"]
+    words = [name + ":", GRAMMARS.get(g, g), room, "index", a.number, *a.row(), 0, 0, 0, "table", *a.out[:size], "clean"]
     return numbers(words)
 
 
@@ -58,10 +42,7 @@ def index_outcome(t, g, room):
     return "%d at %d clean" % (a.number, a.place)
 
 
-for sample in open(sys.argv[1]).read().split("@")[1:]:
-    if sample.startswith("#"):
-        continue
-    mode, name, room, count, form = sample.split(":", 4)
+for mode, name, room, count, form in samples(sys.argv[1], 5):
     t, room = text_of(form, int(count)), int(room)
     if mode == "brief":
         print(name + ": " + " ".join(outcome(t, g, room) for g in (1, 2, 3)))

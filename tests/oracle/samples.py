@@ -3,36 +3,16 @@
     python3 samples.py DOCUMENT_001 > crates/samples/stdin
 """
 import random
-import re
 import sys
 
-MARKS = {10: "$", 13: "%", 9: "&", 11: "(", 12: ")", 127: "?", 255: "^"}
-RESERVED = "@$%&()?^{}"
-out = []
-seen = set()
+from forms import Samples, examples, form
 
-
-def form(t):
-    """The printable form of a text."""
-    s = ""
-    for c in t:
-        if c in MARKS:
-            s += MARKS[c]
-        else:
-            assert 32 <= c < 127 and chr(c) not in RESERVED, t
-            s += chr(c)
-    return s
-
-
-def comment(s):
-    assert "@" not in s and "}" not in s
-    out.append("@# " + s + "\n")
+samples = Samples()
+comment = samples.comment
 
 
 def put(mode, name, text, room=128, count=1):
-    assert (mode, name, room) not in seen and not set(name) & set(": @\n"), name
-    seen.add((mode, name, room))
-    out.append("@%s:%s:%d:%d:%s\n" % (mode, name, room, count, text))
+    samples.put(mode, name, room, count, text)
 
 
 def each(name, t, **more):
@@ -277,32 +257,10 @@ for k in range(100):
         t = t[:i] + random.choice(PIECES) + t[j:]
     brief("random-%d" % k, t)
 
-
-def draft_examples(path):
-    """The examples of the document: the margin of three spaces and the page breaks removed."""
-    lines = [l.rstrip("\n") for l in open(path)]
-    footer, header = re.compile(r"^Josefsson .*\[Page \d+\]$"), re.compile(r"^Internet-Draft .* 20\d\d$")
-    example = None
-    for l in lines:
-        if l.startswith("   -----BEGIN ") and l.endswith("-----"):
-            example = []
-        if example is None:
-            continue
-        if l.strip("\f ") == "" or footer.match(l) or header.match(l):
-            continue
-        assert l.startswith("   ") and not l.startswith("    "), l
-        example.append(l[3:])
-        if l.startswith("   -----END "):
-            yield example
-            example = None
-    assert example is None
-
-
 comment("The examples of draft-josefsson-pkix-textual-00, in their order.")
-examples = ["".join(l + "$\n" for l in lines) for lines in draft_examples(sys.argv[1])]
-for k, example in enumerate(examples, 1):
-    label = example[11:example.index("-----$")]
-    put("each", "draft-%d-%s" % (k, label.replace(" ", "-")), "\n" + example, room=1024)
+drafts = list(examples(sys.argv[1]))
+for name, example in drafts:
+    put("each", name, "\n" + example, room=1024)
 
 comment("The index: samples of the requirements.")
 NO_LF = M[:-1]
@@ -410,10 +368,8 @@ LINES = "-----BEGIN FULL-----$" + (FULL.decode() + "$\n") * 7 + "AQIDBAUGBwgJCgs
 put("index", "full-512", "{" + LINES + "}", room=642, count=128)
 
 comment("Bundles of the examples.")
-put("index", "draft-all", "\n" + "".join(examples), room=46)
+put("index", "draft-all", "\n" + "".join(example for _, example in drafts), room=46)
 for i, k in ((3, 4), (4, 8), (9, 3)):
-    put("index", "draft-%d-%d" % (i, k), "\n" + examples[i - 1] + examples[k - 1], room=12)
+    put("index", "draft-%d-%d" % (i, k), "\n" + drafts[i - 1][1] + drafts[k - 1][1], room=12)
 
-text = "".join(out)
-assert len(text) <= 65536, len(text)
-sys.stdout.write(text)
+sys.stdout.write(samples.text())
