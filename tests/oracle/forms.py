@@ -1,7 +1,8 @@
 """The samples that the programs take: their printable form, how they are written, and how they are read."""
 import re
+import zlib
 
-MARKS = {"$": 10, "%": 13, "&": 9, "(": 11, ")": 12, "?": 127, "^": 255}
+MARKS = {"$": 10, "%": 13, "&": 9, "(": 11, ")": 12, "*": 0, "?": 127, "`": 193, "^": 255}
 LETTERS = {byte: mark for mark, byte in MARKS.items()}
 RESERVED = set(MARKS) | set("@{}")
 LIMIT = 65536
@@ -57,6 +58,10 @@ def samples(path, fields):
 
 def numbers(values):
     return " ".join(str(v) for v in values)
+
+
+def checksum(data):
+    return "adler32=%08x" % zlib.adler32(data)
 
 
 def draft_examples(path):

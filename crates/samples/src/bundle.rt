@@ -32,7 +32,7 @@ pub fn index(name: &[u8], text: &[u8], grammar: u32, lent: &mut [u32]) {
     let mut report = [0u64; 8];
     let number = call_index(text, grammar, lent, &mut report);
     let size = lent::filled(number, &report);
-    print::word(name);
+    print::name(name);
     print::grammar(grammar);
     print::number(lent.len() as u64);
     print::word(b" index");
@@ -63,7 +63,7 @@ fn outcome(text: &[u8], grammar: u32, lent: &mut [u32]) {
 // The outcome of the first bytes under each grammar, in one line.
 fn outcomes(name: &[u8], text: &[u8], count: usize, lent: &mut [u32]) {
     let start = bytes::part(text, 0, count);
-    print::word(name);
+    print::name(name);
     print::number(count as u64);
     outcome(start, 1, lent);
     outcome(start, 2, lent);

@@ -27,7 +27,7 @@ pub fn read(name: &[u8], text: &[u8], grammar: u32, out: &mut [u8]) {
     let mut report = [0u64; 8];
     let number = call_read(text, grammar, out, &mut report);
     let size = lent::filled(number, &report);
-    print::word(name);
+    print::name(name);
     print::grammar(grammar);
     print::number(out.len() as u64);
     print::word(b" read");
@@ -57,7 +57,7 @@ fn outcome(text: &[u8], grammar: u32, out: &mut [u8]) {
 
 // The outcome under each grammar, in one line.
 pub fn outcomes(name: &[u8], text: &[u8], out: &mut [u8]) {
-    print::word(name);
+    print::name(name);
     outcome(text, 1, out);
     outcome(text, 2, out);
     outcome(text, 3, out);

@@ -35,16 +35,12 @@ fn run(mode: &[u8], name: &[u8], text: &[u8], out: &mut [u8], table: &mut [u32])
 
 // One sample, without its first '@'.
 fn sample(form: &[u8], text: &mut [u8], out: &mut [u8], table: &mut [u32]) {
-    let mode = fields::behind(form, 0, b':');
-    let name = fields::behind(form, mode, b':');
-    let room = fields::behind(form, name, b':');
-    let count = fields::behind(form, room, b':');
-    let times = fields::number(bytes::part(form, room, count));
-    let length = expand::expand(bytes::part(form, count, form.len()), times, text);
-    let lent = fields::number(bytes::part(form, name, room)) as usize;
+    let times = fields::number(fields::field(form, 3));
+    let length = expand::expand(fields::rest(form, 4), times, text);
+    let lent = fields::number(fields::field(form, 2)) as usize;
     run(
-        bytes::part(form, 0, mode),
-        bytes::part(form, mode, name),
+        fields::field(form, 0),
+        fields::field(form, 1),
         bytes::part(text, 0, length),
         bytes::first(out, lent),
         table::first(table, lent),

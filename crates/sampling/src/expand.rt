@@ -1,5 +1,5 @@
-// A text from its printable form. There '$' is LF, '%' CR, '&' HT, '(' VT, ')' FF, '?' DEL and '^' 0xFF; what stands in
-// braces is there as many times as a count says, and line ends are only for the eye.
+// A text from its printable form. There '$' is LF, '%' CR, '&' HT, '(' VT, ')' FF, '*' 0, '?' DEL, '`' 0xC1 (an 'A' but for
+// its top bit) and '^' 0xFF; what stands in braces is there as many times as a count says, and line ends are only for the eye.
 use crate::bytes;
 
 // The byte that a character of the printable form stands for.
@@ -10,7 +10,9 @@ fn meaning(c: u8) -> u8 {
         b'&' => b'\t',
         b'(' => 11,
         b')' => 12,
+        b'*' => 0,
         b'?' => 127,
+        b'`' => 0xC1,
         b'^' => 0xFF,
         _ => c,
     }

@@ -2,14 +2,22 @@
 ghost use Prim.Native.Nat.{_≤_};
 use libc::STDOUT_FILENO;
 
-// The most bytes of data that are printed one by one.
+// The most bytes of data that are printed one by one, and the most of a text.
 const SHORT: usize = 48;
+
+const SHORT_TEXT: usize = 200;
 
 // The largest prime below 2 to the 16, of Adler-32.
 const BASE: u64 = 65521;
 
 pub fn word(bytes: &[u8]) {
     io::write_all(STDOUT_FILENO, bytes);
+}
+
+// The start of a line.
+pub fn name(bytes: &[u8]) {
+    word(bytes);
+    word(b":");
 }
 
 pub fn number(n: u64) {
@@ -23,13 +31,17 @@ pub fn numbers(report: &[u64; 8]) {
     }
 }
 
+pub fn either(first: bool, one: &[u8], other: &[u8]) {
+    if first {
+        word(one);
+    } else {
+        word(other);
+    }
+}
+
 // Whether all behind a result is zero.
 pub fn clean(zero: bool) {
-    if zero {
-        word(b" clean");
-    } else {
-        word(b" dirty");
-    }
+    either(zero, b" clean", b" dirty");
 }
 
 pub fn wide(x: u8) -> u64
@@ -59,14 +71,41 @@ fn adler32(bytes: &[u8]) -> u64 {
     b * 65536 + a
 }
 
+fn checksum(bytes: &[u8]) {
+    word(b" adler32=");
+    io::print_hex(STDOUT_FILENO, adler32(bytes), 8);
+}
+
 // The bytes in hexadecimal digits, or the checksum of many.
 pub fn data(bytes: &[u8]) {
     if SHORT < bytes.len() {
-        word(b" adler32=");
-        io::print_hex(STDOUT_FILENO, adler32(bytes), 8);
+        checksum(bytes);
     } else {
         word(b" data=");
         hex(bytes);
+    }
+}
+
+fn letter(c: u8) {
+    let one = [c];
+    either(c == b'\n', b"$", &one);
+}
+
+fn letters(bytes: &[u8]) {
+    let mut i = 0;
+    while i < bytes.len() {
+        letter(bytes[i]);
+        i += 1;
+    }
+}
+
+// The bytes with '$' for LF, or the checksum of many.
+pub fn text(bytes: &[u8]) {
+    if SHORT_TEXT < bytes.len() {
+        checksum(bytes);
+    } else {
+        word(b" text=");
+        letters(bytes);
     }
 }
 
