@@ -1,0 +1,152 @@
+"""Writes the samples of the write call, standard input of the program write_samples.
+
+    python3 write_samples.py DOCUMENT_001 > crates/write_samples/stdin
+"""
+import random
+import sys
+
+import oracle
+from forms import RESERVED, Samples, examples, form
+
+samples = Samples()
+comment = samples.comment
+MOST = 49152
+
+
+def put(mode, name, room, head, data, length=0, count=1):
+    assert ":" not in head and room <= MOST
+    samples.put(mode, name, room, count, length, head, data)
+
+
+def write(name, label, data=b"f", room=300, length=0):
+    put("write", name, room, form(label), form(data), length)
+
+
+def back(name, label, data=b"f", room=300, length=0):
+    put("back", name, room, form(label), form(data), length)
+
+
+def trip(name, text, room=1200):
+    put("trip", name, room, form(text), "")
+
+
+def needed(label, n):
+    """The room that a label and n bytes need."""
+    return len(oracle.written(label, bytes(n)))
+
+
+M = oracle.written(b"A", b"f")
+
+comment("M of the requirements, and its room.")
+back("M", b"A", room=39)
+for room in (39, 38, 40, 300, 1, 0):
+    write("M", b"A", room=room)
+
+comment("Labels of 0 to 66 bytes.")
+for n in (0, 1, 2, 63, 64):
+    back("label-%d" % n, b"L" * n)
+back("label-64-words", b"A-B C.D " * 7 + b"A-B C.DE")
+write("label-65", b"L" * 65)
+write("label-66", b"L" * 66)
+write("label-65-words", b"A-B C.D " * 8 + b"A")
+
+comment("What a label may be.")
+for name, label in (
+    ("A-B", b"A-B"), ("A-SP-B", b"A B"), ("A-B-SP-C-D", b"A-B C-D"), ("words", b"a-b c.d-e f"), ("lower", b"certificate"),
+    ("exclamation", b"!"), ("comma", b","), ("dot", b"."), ("tilde", b"~"), ("edges", b"!,.~"), ("slash", b"/"), ("equals", b"="),
+    ("digits", b"0-9 0"), ("BEGIN", b"BEGIN A"), ("END", b"END"), ("X509-CRL", b"X509 CRL"),
+):
+    back("label-" + name, label)
+for name, label in (
+    ("SP", b" "), ("hyphen", b"-"), ("SP-A", b" A"), ("hyphen-A", b"-A"), ("A-SP", b"A "), ("A-hyphen", b"A-"),
+    ("A--B", b"A--B"), ("A-SP-SP-B", b"A  B"), ("A-SP-hyphen-B", b"A -B"), ("A-hyphen-SP-B", b"A- B"), ("five-hyphens", b"-----"),
+    ("HT", b"\t"), ("A-HT-B", b"A\tB"), ("LF", b"\n"), ("A-LF", b"A\n"), ("A-LF-B", b"A\nB"), ("A-CR-B", b"A\rB"),
+    ("A-VT-B", b"A\vB"), ("A-FF-B", b"A\fB"), ("DEL", b"\x7f"), ("A-DEL", b"A\x7f"), ("A-DEL-B", b"A\x7fB"), ("0xC1", b"\xc1"),
+    ("A-0xC1", b"A\xc1"), ("0xFF", b"\xff"), ("A-0xFF", b"A\xff"), ("0", b"\0"), ("A-0", b"A\0"), ("0-A", b"\0A"),
+    ("64-hyphen", b"L" * 63 + b"-"), ("64-SP", b"L" * 63 + b" "), ("hyphen-64", b"-" + b"L" * 63), ("SP-64", b" " + b"L" * 63),
+):
+    write("no-label-" + name, label)
+
+comment("Data of 0 to 32,769 bytes, and their room: exact, one less, one more, many more, none.")
+for n in (*range(7), 46, 47, 48, 49, 50, 95, 96, 97, 143, 144, 145, 256, 512, 513, 32767, 32768, 32769):
+    exact = needed(b"A", n)
+    back("data-%d" % n, b"A", b"", exact, n)
+    for room in (exact - 1, exact + 1, MOST if n > 1000 else 1000, 0):
+        write("data-%d" % n, b"A", b"", room, n)
+for text in (b"\0", b"\xff", b"\0\0", b"\xff\xff", b"\0\0\0", b"\xff\xff\xff", b"f", b"fo", b"foo", b"foob", b"fooba", b"foobar"):
+    back("bytes-" + text.hex(), b"A", text)
+put("back", "zeros-48", 300, "A", "{*}", count=48)
+put("back", "ones-49", 300, "A", "{^}", count=49)
+put("back", "zeros-32768", MOST, "A", "{*}", count=32768)
+put("write", "zeros-32769", MOST, "A", "{*}", count=32769)
+
+comment("The longest text.")
+back("longest", b"L" * 64, b"", 44535, 32768)
+for room in (44534, 44536, MOST, 0):
+    write("longest", b"L" * 64, b"", room, 32768)
+for label, n in ((b"L" * 63, 32768), (b"L" * 64, 32767), (b"L" * 64, 32766), (b"", 32768)):
+    back("nearly-longest-%d-%d" % (len(label), n), label, b"", needed(label, n), n)
+
+comment("The order of the checks: label's length, label, no data, data's length, room.")
+for name, label in (("long", b"L" * 64 + b"-"), ("no-label", b"A-"), ("label", b"A")):
+    for n in (0, 1, 32769):
+        for room in (0, 39, MOST):
+            write("order-%s-%d" % (name, n), label, b"", room, n)
+write("order-long-label-room", b"L" * 65, room=0)
+write("order-label-64-no-data", b"L" * 64, b"", room=0)
+write("order-empty-label-no-data", b"", b"", room=0)
+write("order-empty-label-no-data", b"", b"")
+
+comment("Round trips of texts: strict ones with LF are restored.")
+FULL = "ABCDEFGHIJKLMNOPQRSTUVWXYZabcdefghijklmnopqrstuvwxyz0123456789+/"
+for room in (39, 38, 1200, 0):
+    trip("M", M, room)
+trip("CRLF", M.replace(b"\n", b"\r\n"))
+trip("CR", M.replace(b"\n", b"\r"))
+trip("empty-label", oracle.written(b"", b"f"))
+trip("label-64", oracle.written(b"L" * 64, b"foo"))
+trip("label-A-B-SP-C", oracle.written(b"A-B C", b"fo"))
+for n in (47, 48, 49, 96, 97):
+    trip("lines-%d" % n, oracle.written(b"A", bytes(range(n))))
+trip("spare-bits", M.replace(b"Zg", b"Zh"))
+trip("no-last-LF", M[:-1])
+trip("no-data", oracle.written(b"A", b""))
+trip("label-65", oracle.written(b"L" * 65, b"f"))
+LONGEST = "-----BEGIN {0}-----$\n{{{1}$}}%s$\n-----END {0}-----$".format("L" * 64, FULL)
+put("trip", "longest", 44535, LONGEST % (FULL[:40] + "//8="), "", count=682)
+put("trip", "longest", 44534, LONGEST % (FULL[:40] + "//8="), "", count=682)
+put("trip", "data-32769", MOST, LONGEST % FULL[:44], "", count=682)
+
+comment("Round trips of the examples of draft-josefsson-pkix-textual-00, in their order.")
+for name, example in examples(sys.argv[1]):
+    put("trip", name, 1024, "\n" + example, "")
+
+comment("Labels and data at random.")
+random.seed(7468)
+LABEL_BYTES = [c for c in range(33, 127) if c != 45 and chr(c) not in RESERVED | {":"}]
+DATA_BYTES = [c for c in range(32, 127) if chr(c) not in RESERVED] + [0, 9, 10, 13, 127, 193, 255] * 4
+
+
+def random_label():
+    label = b""
+    for _ in range(random.choice((0, 1, 1, 2, 3, 4))):
+        word = bytes(random.choices(LABEL_BYTES, k=random.randint(1, 6)))
+        label += (random.choice((b"-", b" ", b"")) if label else b"") + word
+    return label
+
+
+def damaged(label):
+    i = random.randint(0, len(label))
+    return label[:i] + random.choice((b"-", b" ", b"\t", b"\n", b"\0", b"\x7f", b"\xff", b"--", b" -")) + label[i:]
+
+
+for k in range(300):
+    label = random_label()
+    if k % 6 == 5:
+        label = damaged(label)
+    data = bytes(random.choices(DATA_BYTES, k=random.randint(0, 20)))
+    length = random.choice((0, 0, random.randint(0, 100)))
+    exact = needed(label, len(data) + length)
+    back("random-%d" % k, label, data, exact + random.choice((0, 0, 0, 1, 50, -1)), length)
+
+sys.stdout.write(samples.text())
