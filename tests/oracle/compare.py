@@ -1,10 +1,11 @@
 """Compares the linked archive with the oracle on random texts and bundles: valid, damaged by up to three edits, and soups
-of marks.
+of marks; the write call on random labels, valid and damaged, and data of all lengths.
 
     rt staticlib zullifern
     python3 compare.py target/staticlib/libzullifern.a SEED COUNT
 
-The lent output, table and report are filled with old values first; output and table are guarded at both ends.
+The lent output, table and report are filled with old values first; output and table are guarded at both ends. What was
+written is read back.
 """
 import collections
 import ctypes
@@ -19,6 +20,7 @@ import oracle
 ALPHABET = b"ABCDEFGHIJKLMNOPQRSTUVWXYZabcdefghijklmnopqrstuvwxyz0123456789+/"
 WHITE = [b" ", b"\t", b"\r", b"\n", b"\x0b", b"\x0c"]
 SOUP = [b"-----BEGIN ", b"-----END ", b"-----", b"A", b"=", b"==", b"\r", b"\n", b"\r\n", b" ", b"\t", b"Zg==", b"-", b"\x0b", b"A-B", b"\xff", b"!"]
+LABEL_BYTES = [c for c in range(33, 127) if c != 45]
 GUARD = 8
 OLD = 0xAAAAAAAA
 
@@ -30,28 +32,37 @@ def loaded(archive):
     return ctypes.CDLL(path)
 
 
+def old_report():
+    return (ctypes.c_uint64 * 8)(*([7] * 8))
+
+
+def lent(call, *given, room, item=ctypes.c_uint8, old=OLD & 0xFF):
+    """What a call answers that is lent `room` items and a report: number, report and items."""
+    items, report = (item * (room + 2 * GUARD))(*([old] * (room + 2 * GUARD))), old_report()
+    answer = call(*given, ctypes.byref(items, GUARD * ctypes.sizeof(item)), ctypes.c_size_t(room), report)
+    held = list(items)
+    assert held[:GUARD] == held[GUARD + room:] == [old] * GUARD, (given, room)
+    return answer, list(report), held[GUARD:GUARD + room]
+
+
 def called(library, text, grammar, room):
     """What read and label answer: number, report and output of read, number and report of label."""
-    out = (ctypes.c_uint8 * (room + 2 * GUARD))(*([0xAA] * (room + 2 * GUARD)))
-    reports = [(ctypes.c_uint64 * 8)(*([7] * 8)) for _ in range(2)]
-    length, number = ctypes.c_size_t(len(text)), ctypes.c_uint32(grammar)
-    read = library.zullifern_read(text, length, number, ctypes.byref(out, GUARD), ctypes.c_size_t(room), reports[0])
-    label = library.zullifern_label(text, length, number, reports[1])
-    held = bytes(out)
-    assert held[:GUARD] == held[GUARD + room:] == b"\xaa" * GUARD, (text, grammar, room)
-    return read, list(reports[0]), held[GUARD:GUARD + room], label, list(reports[1])
+    given = text, ctypes.c_size_t(len(text)), ctypes.c_uint32(grammar)
+    report = old_report()
+    label = library.zullifern_label(*given, report)
+    return *lent(library.zullifern_read, *given, room=room), label, list(report)
 
 
 def indexed(library, text, grammar, room):
     """What index answers: number, report and table."""
-    table = (ctypes.c_uint32 * (room + 2 * GUARD))(*([OLD] * (room + 2 * GUARD)))
-    report = (ctypes.c_uint64 * 8)(*([7] * 8))
-    length, number = ctypes.c_size_t(len(text)), ctypes.c_uint32(grammar)
-    behind_guard = ctypes.byref(table, GUARD * ctypes.sizeof(ctypes.c_uint32))
-    answer = library.zullifern_index(text, length, number, behind_guard, ctypes.c_size_t(room), report)
-    held = list(table)
-    assert held[:GUARD] == held[GUARD + room:] == [OLD] * GUARD, (text, grammar, room)
-    return answer, list(report), held[GUARD:GUARD + room]
+    given = text, ctypes.c_size_t(len(text)), ctypes.c_uint32(grammar)
+    return lent(library.zullifern_index, *given, room=room, item=ctypes.c_uint32, old=OLD)
+
+
+def written(library, label, data, room):
+    """What write answers: number, report and output."""
+    given = label, ctypes.c_size_t(len(label)), data, ctypes.c_size_t(len(data))
+    return lent(library.zullifern_write, *given, room=room)
 
 
 class Texts:
@@ -134,9 +145,26 @@ class Texts:
         text = b"".join(self.mostly_sound(self.random.choice(grammars)) for _ in range(self.random.randint(0, 4)))
         return text if self.random.random() < 0.5 else self.damaged(text)
 
-
     def grammar(self):
         return self.random.choice([1, 2, 3] * 4 + [0, 4, 257])
+
+    def any_label(self):
+        """Words with a hyphen, a space or nothing between them, of 64 bytes at most or not, and then damaged or not."""
+        label = b""
+        for _ in range(self.random.choice([0, 1, 2, 3, 4, 20])):
+            word = bytes(self.random.choices(LABEL_BYTES, k=self.random.randint(1, 8)))
+            label += (self.random.choice([b"-", b" ", b""]) if label else b"") + word
+        label = label[:self.random.choice([63, 64, 65, 200])]
+        return label if self.random.random() < 0.7 else self.damaged(label)
+
+    def data(self):
+        length = self.random.choice([self.random.randint(0, 8), self.random.randint(0, 200)])
+        if self.random.random() < 0.005:
+            length = self.random.choice([32767, 32768, 32769, self.random.randint(0, 33000)])
+        return self.random.randbytes(length)
+
+    def write_room(self, needed):
+        return max(0, needed + self.random.choice([0, 0, 0, -1, 1, 7, 100, -needed, -self.random.randint(0, 40)]))
 
 
 def compare_read(library, text, grammar, room):
@@ -144,7 +172,7 @@ def compare_read(library, text, grammar, room):
     a = oracle.read(text, grammar, room)
     passed = a.number in (0, 10)
     label = [0, 0, 0, a.label_at if passed else 0, a.label_len if passed else 0, 0, 0, 0]
-    want = (a.number, [*a.row(), 0, 0, 0], bytes(a.out), 0, label)
+    want = (a.number, [*a.row(), 0, 0, 0], list(a.out), 0, label)
     got = called(library, text, grammar, room)
     assert got == want, (text, grammar, room, got, want)
     return a.number
@@ -159,16 +187,32 @@ def compare_index(library, text, grammar, room):
     return a.number
 
 
+def compare_write(library, label, data, room):
+    """The number that oracle and library agree on. What was written is read back alike under each grammar."""
+    a = oracle.write(label, data, room)
+    want = (a.number, [*a.row(), 0, 0, 0], list(a.out))
+    got = written(library, label, data, room)
+    assert got == want, (label, data, room, got, want)
+    for grammar in (1, 2, 3) if a.number == 0 else ():
+        number, report, out, *_ = called(library, a.out[:a.size], grammar, len(data))
+        assert (number, report[2:5], bytes(out)) == (0, [len(data), 11, len(label)], data), (label, data, grammar, report)
+    return a.number
+
+
 def main():
-    library, texts, count = loaded(sys.argv[1]), Texts(int(sys.argv[2])), int(sys.argv[3])
-    read, index = collections.Counter(), collections.Counter()
+    library, seed, count = loaded(sys.argv[1]), int(sys.argv[2]), int(sys.argv[3])
+    texts, pairs = Texts(seed), Texts(seed)
+    read, index, write = collections.Counter(), collections.Counter(), collections.Counter()
     for _ in range(count):
         text, bundle = texts.text(), texts.bundle()
         read[compare_read(library, text, texts.grammar(), texts.random.choice([0, 1, 2, 3, 10, 60, 200]))] += 1
         index[compare_index(library, text, texts.grammar(), texts.random.choice([0, 1, 5, 6, 7]))] += 1
         index[compare_index(library, bundle, texts.grammar(), texts.random.choice([0, 1, 6, 10, 11, 16, 21, 30]))] += 1
+        label, data = pairs.any_label(), pairs.data()
+        write[compare_write(library, label, data, pairs.write_room(len(oracle.written(label, data))))] += 1
     print(count, "texts read, by number:", dict(sorted(read.items())))
     print(2 * count, "texts indexed, by number:", dict(sorted(index.items())))
+    print(count, "labels and data written, by number:", dict(sorted(write.items())))
 
 
 main()
