@@ -42,24 +42,30 @@ pub data Judged (label content : List ℕ) : Judgement → Type 0 where
   takes : Takes label content → Judged label content (taken label content)
   refuses : {refusal : WriteRefusal} → Refuses label content refusal → Judged label content (judgement.Refused refusal)
 
+-- By a test: what holds of both answers holds of the one that it picks.
+by-test : {A : Type 0} (P : A → Type 0) (b : Bool) (x y : A) → (b ≡ true → P x) → (b ≡ false → P y) → P (cond b x y)
+by-test P true x y f g = f refl
+by-test P false x y f g = g refl
+
 pub judge-means : (label content : List ℕ) → Judged label content (judgeOf label content)
 judge-means label content =
-    go (ltb labelLimit (length label)) refl (isLabel label) refl (eqb (length content) 0) refl (ltb dataLimit (length content)) refl
+    by-test J _ _ _
+    (λ long. refuses (rows.labelTooLong (ltb-true _ _ long)))
+    (λ short. by-test J _ _ _
+    (λ isLabel. by-test J _ _ _
+    (λ none. refuses (rows.noData (ltb-false _ _ short) (test-label label isLabel) (no-length content (eqb-true _ _ none))))
+    (λ some. by-test J _ _ _
+    (λ long. refuses (rows.dataTooLong (ltb-false _ _ short) (test-label label isLabel) (ltb-true _ _ long)))
+    (λ few. takes record {
+      shortLabel = ltb-false _ _ short;
+      isLabel = test-label label isLabel;
+      someData = λ e. eqb-false _ _ some (ap length e);
+      shortData = ltb-false _ _ few;
+    })))
+    (λ no. refuses (rows.notALabel (ltb-false _ _ short) (λ h. true≢false (sym (label-test h) ∙ no)))))
   where
-    go : (a : Bool) → ltb labelLimit (length label) ≡ a → (b : Bool) → isLabel label ≡ b → (c : Bool) → eqb (length content) 0 ≡ c → (d : Bool)
-        → ltb dataLimit (length content) ≡ d
-        → Judged label content (cond a (judgement.Refused LabelTooLong) (cond b (cond c (judgement.Refused NoData) (cond d (judgement.Refused DataTooLong) (taken label content))) (judgement.Refused NotALabel)))
-    go true ea b eb c ec d ed = refuses (rows.labelTooLong (ltb-true _ _ ea))
-    go false ea false eb c ec d ed = refuses (rows.notALabel (ltb-false _ _ ea) (λ h. true≢false (sym (label-test h) ∙ eb)))
-    go false ea true eb true ec d ed = refuses (rows.noData (ltb-false _ _ ea) (test-label label eb) (no-length content (eqb-true _ _ ec)))
-    go false ea true eb false ec true ed = refuses (rows.dataTooLong (ltb-false _ _ ea) (test-label label eb) (ltb-true _ _ ed))
-    go false ea true eb false ec false ed =
-        takes record {
-          shortLabel = ltb-false _ _ ea;
-          isLabel = test-label label eb;
-          someData = λ e. eqb-false (length content) 0 ec (ap length e);
-          shortData = ltb-false _ _ ed;
-        }
+    J : Judgement → Type 0
+    J = Judged label content
 
 -- Each row leaves one judgement only.
 pub takes-judge : (label content : List ℕ) → Takes label content → judgeOf label content ≡ taken label content
@@ -93,16 +99,23 @@ refuses-judge label content refusal (rows.dataTooLong s l h) =
 
 -- ---- The answer and the output
 
+-- What a test picks.
+picks-first : {A : Type 0} (b : Bool) (x y : A) → b ≡ true → cond b x y ≡ x
+picks-first b x y e = rw e
+
+picks-second : {A : Type 0} (b : Bool) (x y : A) → b ≡ false → cond b x y ≡ y
+picks-second b x y e = rw e
+
 -- With room and without, of a text of the size that was judged.
 room-answer : (text : List ℕ) (n room : ℕ) → n ≡ length text → length text ≤ room
     → (answered (judgement.Taken (textSize n)) room ≡ answer.Accepted (textSize (length text)))
     × (filled (judgement.Taken (textSize n)) text room ≡ text ++ replicate (room - length text) 0)
-room-answer text n room e h = (rw (e, le-ltb room (length text) h), rw (e, le-ltb room (length text) h))
+room-answer text n room e h = rw e (picks-second _ _ _ (le-ltb room (length text) h), picks-second _ _ _ (le-ltb room (length text) h))
 
 small-answer : (text : List ℕ) (n room : ℕ) → n ≡ length text → room < length text
     → (answered (judgement.Taken (textSize n)) room ≡ answer.OutputTooSmall (textSize (length text)))
     × (filled (judgement.Taken (textSize n)) text room ≡ replicate room 0)
-small-answer text n room e h = (rw (e, lt-ltb room (length text) h), rw (e, lt-ltb room (length text) h))
+small-answer text n room e h = rw e (picks-first _ _ _ (lt-ltb room (length text) h), picks-first _ _ _ (lt-ltb room (length text) h))
 
 -- What is written of a label and data that the writer takes.
 pub takes-answer : (label content : List ℕ) (room : ℕ) → Takes label content → length (writtenText label content) ≤ room

@@ -20,7 +20,7 @@ use Rattle.grammar.specs.Message.{Reading, textOf, Shape, characters, padCount,
 use Rattle.grammar.specs.declared.Grammar.the-variants.{Strict}
 use Rattle.grammar.proofs.Marks.{end-no-alphabet}
 use Rattle.grammar.proofs.Counts.{characters-append, pads-append, characters-alphabet, pads-alphabet, characters-pads, pads-pads, end-counts}
-use Rattle.writing.specs.Text.{lineEnd, inLines, writtenText, writtenSize}
+use Rattle.writing.specs.Text.{lineEnd, inLines, writtenLines, writtenText, writtenSize}
 use Rattle.writing.specs.Meaning.{LFOnly, StrictText}
 use Rattle.writing.proofs.Lines.{length-lines, characters-lines, pads-lines, all-lines, lines-strict, charsThenPads, end-front, end-lf-only, strict-lines-written}
 
@@ -33,7 +33,7 @@ some-length (x ∷ l) h = omega arith
 chars-alphabet : (d : List ℕ) → All Octet d → All AlphabetChar (charsOf d)
 chars-alphabet d h = all-map charOf Sextet AlphabetChar (λ v k. rw (value-char v k) k) (toValues d) (values-sextets d h)
 
-written-lines : (d : List ℕ) → d ≢ [] → All Octet d → StrictLines (inLines lineChars (encode d))
+written-lines : (d : List ℕ) → d ≢ [] → All Octet d → StrictLines (writtenLines d)
 written-lines d some h =
     let pads = counts-pads (length (toValues d)) (padsFor d) (values-counts d) in
     let count : length (charsOf d) + padsFor d ≡ 4 * ((length d + 2) / 3) = simp (length-append, length-replicate) at (length-encode d) in
@@ -44,7 +44,7 @@ written-lines d some h =
 
 abbrev pub writtenReading : List ℕ → List ℕ → Reading
 writtenReading label content =
-    record { before = []; openingLabel = label; body = lineEnd ++ inLines lineChars (encode content); closingLabel = label; after = lineEnd }
+    record { before = []; openingLabel = label; body = lineEnd ++ writtenLines content; closingLabel = label; after = lineEnd }
 
 module _ (label content : List ℕ) (octets : All Octet content) where
   body-characters : characters ((writtenReading label content) .body) ≡ charsOf content
@@ -75,7 +75,7 @@ module _ (label content : List ℕ) (octets : All Octet content) where
     written-shape = record {
       before = refl;
       openingLabel = isLabel;
-      body = StrictBody.strict lineEnd (inLines lineChars (encode content)) lf (written-lines content some octets);
+      body = StrictBody.strict lineEnd (writtenLines content) lf (written-lines content some octets);
       closingLabel = isLabel;
       after = lf;
     }

@@ -16,9 +16,13 @@ inLines room [] = lineEnd
 inLines zero (c ∷ l) = lineEnd ++ (c ∷ inLines (lineChars - 1) l)
 inLines (suc room) (c ∷ l) = c ∷ inLines room l
 
+-- The base 64 text of the data, in lines.
+abbrev pub writtenLines : List ℕ → List ℕ
+writtenLines content = inLines lineChars (encode content)
+
 -- The strict text of a label and data, with LF line ends.
 abbrev pub writtenText : List ℕ → List ℕ → List ℕ
-writtenText label content = opening label ++ (lineEnd ++ (inLines lineChars (encode content) ++ (closing label ++ lineEnd)))
+writtenText label content = opening label ++ (lineEnd ++ (writtenLines content ++ (closing label ++ lineEnd)))
 
 -- Its length for a label of L and data of n bytes: 32 + 2L + 4⌈n/3⌉ + ⌈n/48⌉.
 abbrev pub writtenSize : (L n : ℕ) → ℕ
