@@ -3,5 +3,6 @@ pub mod Lines
 pub mod Text
 pub mod Meaning
 pub mod Claims
+pub mod Samples
 pub mod Placed
 pub mod Progress

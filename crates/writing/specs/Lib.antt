@@ -5,3 +5,4 @@ pub mod Text
 pub mod Meaning
 pub mod Write
 pub mod Claims
+pub mod Samples

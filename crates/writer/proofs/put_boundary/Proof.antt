@@ -1,33 +1,62 @@
 -- `writer::put_boundary` meets its contract, part by part. Assumes nothing.
 use borrow.Author.Needs.{needs}
+use mathlib.Core.Path.{_≡_}
+use Prim.Native.Nat.{_+_}
 use native.Mathlib.Omega.{arith}
-use Rattle.writing.proofs.Progress.{boundary-length, boundary-put}
+use lib.ListN.{length}
+use Rattle.writing.proofs.Progress.{boundaryLine, boundary-length, boundary-put}
 use Rattle.writer.proofs.put_boundary.Statement.{statement}
 use Rattle.writer.proofs.put_boundary.Tie as tie
 
+-- The places on the way: behind the word, the label and the hyphens.
+abbrev start : tie.After-put-bytes → tie.Start
+start c = c .before .before .before .before .before
+
+abbrev worded : tie.After-put-bytes2 → tie.After-put-bytes
+worded c = c .before .before .before .before
+
+abbrev labelled : tie.After-put-bytes3 → tie.After-put-bytes2
+labelled c = c .before .before .before .before .before
+
+-- The boundary's length by its parts.
+parts : (c : tie.Start) → length (boundaryLine (c .args .word .now) (c .args .label .now)) ≡ length (c .args .word .now) + (length (c .args .label .now) + 6)
+parts c = boundary-length (c .args .word .now) (c .args .label .now)
+
 put-bytes-requires : tie.Need-put-bytes-requires
-put-bytes-requires c κs = omega (arith, boundary-length (c .before .before .before .before .args .word .now) (c .before .before .before .before .args .label .now))
+put-bytes-requires c κs = omega (arith, parts (c .before .before .before .before))
 
 put-bytes-requires-2 : tie.Need-put-bytes-requires-2
-put-bytes-requires-2 c κs = omega (arith, c .before .before .before .put-bytes .ensures .ends, boundary-length (c .before .before .before .before .before .before .before .before .args .word .now) (c .before .before .before .before .before .before .before .before .args .label .now))
+put-bytes-requires-2 c κs =
+    let at-word = c .before .before .before in
+    omega (arith, at-word .put-bytes .ensures .ends, parts (start at-word))
 
 slice-aggregate-put-bytes : tie.Need-slice-aggregate-put-bytes
 slice-aggregate-put-bytes c = search needs
 
 put-bytes-requires-3 : tie.Need-put-bytes-requires-3
-put-bytes-requires-3 c κs = omega (arith, c .before .before .before .before .put-bytes2 .ensures .ends, c .before .before .before .before .before .before .before .before .put-bytes .ensures .ends, boundary-length (c .before .before .before .before .before .before .before .before .before .before .before .before .before .args .word .now) (c .before .before .before .before .before .before .before .before .before .before .before .before .before .args .label .now))
+put-bytes-requires-3 c κs =
+    let at-label = c .before .before .before .before in
+    let at-word = worded at-label in
+    omega (arith, at-label .put-bytes2 .ensures .ends, at-word .put-bytes .ensures .ends, parts (start at-word))
 
 put-end-requires : tie.Need-put-end-requires
-put-end-requires c κs = omega (arith, c .before .before .before .put-bytes3 .ensures .ends, c .before .before .before .before .before .before .before .before .put-bytes2 .ensures .ends, c .before .before .before .before .before .before .before .before .before .before .before .before .put-bytes .ensures .ends, boundary-length (c .before .before .before .before .before .before .before .before .before .before .before .before .before .before .before .before .before .args .word .now) (c .before .before .before .before .before .before .before .before .before .before .before .before .before .before .before .before .before .args .label .now))
+put-end-requires c κs =
+    let at-hyphens = c .before .before .before in
+    let at-label = labelled at-hyphens in
+    let at-word = worded at-label in
+    omega (arith, at-hyphens .put-bytes3 .ensures .ends, at-label .put-bytes2 .ensures .ends, at-word .put-bytes .ensures .ends, parts (start at-word))
 
 same-length : tie.Need-same-length
 same-length c = search needs
 
 returns : tie.Need-returns
 returns c =
-    let start = c .before .before .before .before .before .before .before .before .before .before .before .before .before .before .before .before .before .before .before .before in
-    boundary-put (start .args .word .now) (start .args .label .now) (start .pre) (omega arith) (omega arith)
-    (c .before .before .before .before .before .before .before .before .before .before .before .before .before .before .before .put-bytes .ensures) (c .before .before .before .before .before .before .before .before .before .before .before .put-bytes2 .ensures) (c .before .before .before .before .before .before .put-bytes3 .ensures) (c .before .before .put-end .ensures)
+    let at-hyphens = c .before .before .before .before .before .before in
+    let at-label = labelled at-hyphens in
+    let at-word = worded at-label in
+    let args = start at-word .args in
+    boundary-put (args .word .now) (args .label .now) (start at-word .pre) (omega arith) (omega arith)
+    (at-word .put-bytes .ensures) (at-label .put-bytes2 .ensures) (at-hyphens .put-bytes3 .ensures) (c .before .before .put-end .ensures)
 
 pub put-boundary-spec : {M : Type 1} → statement M
 put-boundary-spec =

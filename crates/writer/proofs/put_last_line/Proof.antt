@@ -1,8 +1,8 @@
 -- `writer::put_last_line` meets its contract: a group and the line end, or the line end alone. Assumes nothing.
 use borrow.Author.Needs.{needs}
 use mathlib.Core.Path.{_≡_, ap}
-use mathlib.Core.List.{_++_}
-use Prim.Native.Nat.{_+_, _≤_}
+use mathlib.Core.List.{List, _++_}
+use Prim.Native.Nat.{ℕ, _+_, _≤_}
 use native.Mathlib.Omega.{arith}
 use lib.ListN.{length}
 use Rattle.base64.specs.Groups.{encode}
@@ -11,22 +11,33 @@ use Rattle.writing.proofs.Progress.{groupText, last-one, last-two, last-none, l
 use Rattle.writer.proofs.put_last_line.Statement.{statement}
 use Rattle.writer.proofs.put_last_line.Tie as tie
 
--- The lines that are to come: the group of one byte, or of two, and the line end.
-one : (c : tie.After-encode-one) → inLines (c .before .before .before .before .before .before .args .room) (encode (c .before .before .before .before .before .before .args .rest .now)) ≡ groupText (c .before .before .before .before .before .before .args .room) (c .encode-one .result) ++ lineEnd
-one c = last-one (c .before .before .before .before .before .before .args .room) (c .before .before .before .before .before .before .args .rest .now) (c .encode-one .result) (c .before .before .before .before .before .before .pre .2) (c .before .before .before .if1 .taken) (c .encode-one .ensures)
+-- Where a group of one byte, or of two, or none is to come.
+abbrev start1 : tie.After-encode-one → tie.Start
+start1 c = c .before .before .before .before .before .before
 
-two : (c : tie.After-encode-two) → inLines (c .before .before .before .before .before .before .before .before .args .room) (encode (c .before .before .before .before .before .before .before .before .args .rest .now)) ≡ groupText (c .before .before .before .before .before .before .before .before .args .room) (c .encode-two .result) ++ lineEnd
-two c = last-two (c .before .before .before .before .before .before .before .before .args .room) (c .before .before .before .before .before .before .before .before .args .rest .now) (c .encode-two .result) (c .before .before .before .before .before .before .before .before .pre .2) (c .before .before .before .before .if2 .taken) (c .encode-two .ensures)
+abbrev start2 : tie.After-encode-two → tie.Start
+start2 c = c .before .before .before .before .before .before .before .before
 
-none : (c : tie.Else2) → inLines (c .before .before .before .before .args .room) (encode (c .before .before .before .before .args .rest .now)) ≡ lineEnd
-none c = last-none (c .before .before .before .before .args .room) (c .before .before .before .before .args .rest .now) (c .before .before .before .before .pre .1) (c .before .if1 .left) (c .if2 .left)
+abbrev start0 : tie.Else2 → tie.Start
+start0 c = c .before .before .before .before
+
+-- The lines that are to come.
+abbrev lines : tie.Start → List ℕ
+lines s = inLines (s .args .room) (encode (s .args .rest .now))
+
+one : (c : tie.After-encode-one) → lines (start1 c) ≡ groupText (start1 c .args .room) (c .encode-one .result) ++ lineEnd
+one c = last-one (start1 c .args .room) (start1 c .args .rest .now) (c .encode-one .result) (start1 c .pre .2) (c .before .before .before .if1 .taken) (c .encode-one .ensures)
+
+two : (c : tie.After-encode-two) → lines (start2 c) ≡ groupText (start2 c .args .room) (c .encode-two .result) ++ lineEnd
+two c = last-two (start2 c .args .room) (start2 c .args .rest .now) (c .encode-two .result) (start2 c .pre .2) (c .before .before .before .before .if2 .taken) (c .encode-two .ensures)
+
+none : (c : tie.Else2) → lines (start0 c) ≡ lineEnd
+none c = last-none (start0 c .args .room) (start0 c .args .rest .now) (start0 c .pre .1) (c .before .if1 .left) (c .if2 .left)
 
 -- They have room.
-one-room : (c : tie.After-encode-one) → c .before .before .before .before .before .before .args .at + length (groupText (c .before .before .before .before .before .before .args .room) (c .encode-one .result)) + length lineEnd ≤ length (c .before .before .before .before .before .before .args .out .now)
-one-room c = last-room (c .before .before .before .before .before .before .args .room) (c .before .before .before .before .before .before .args .at) (c .before .before .before .before .before .before .args .rest .now) (c .encode-one .result) (c .before .before .before .before .before .before .args .out .now) (one c) (c .before .before .before .before .before .before .pre .3)
-
-two-room : (c : tie.After-encode-two) → c .before .before .before .before .before .before .before .before .args .at + length (groupText (c .before .before .before .before .before .before .before .before .args .room) (c .encode-two .result)) + length lineEnd ≤ length (c .before .before .before .before .before .before .before .before .args .out .now)
-two-room c = last-room (c .before .before .before .before .before .before .before .before .args .room) (c .before .before .before .before .before .before .before .before .args .at) (c .before .before .before .before .before .before .before .before .args .rest .now) (c .encode-two .result) (c .before .before .before .before .before .before .before .before .args .out .now) (two c) (c .before .before .before .before .before .before .before .before .pre .3)
+room : (s : tie.Start) (group : List ℕ) → lines s ≡ groupText (s .args .room) group ++ lineEnd
+    → s .args .at + length (groupText (s .args .room) group) + length lineEnd ≤ length (s .args .out .now)
+room s group e = last-room (s .args .room) (s .args .at) (s .args .rest .now) group (s .args .out .now) e (s .pre .3)
 
 shared-slice-read-encode-one : tie.Need-shared-slice-read-encode-one
 shared-slice-read-encode-one c = search needs
@@ -35,10 +46,12 @@ encode-one-requires : tie.Need-encode-one-requires
 encode-one-requires c κs = search needs
 
 put-group-requires : tie.Need-put-group-requires
-put-group-requires c κs = (c .before .before .before .before .before .before .pre .2, omega (arith, one-room c))
+put-group-requires c κs = (start1 c .pre .2, omega (arith, room (start1 c) (c .encode-one .result) (one c)))
 
 put-end-requires : tie.Need-put-end-requires
-put-end-requires c κs = omega (arith, c .before .before .before .put-group .ensures .0 .ends, one-room (c .before .before .before .before))
+put-end-requires c κs =
+    let grouped = c .before .before .before .before in
+    omega (arith, c .before .before .before .put-group .ensures .0 .ends, room (start1 grouped) (grouped .encode-one .result) (one grouped))
 
 same-length : tie.Need-same-length
 same-length c = search needs
@@ -46,7 +59,7 @@ same-length c = search needs
 returns : tie.Need-returns
 returns c =
     let grouped = c .before .before .before .before .before .before .before in
-    let start = c .before .before .before .before .before .before .before .before .before .before .before .before .before in
+    let start = start1 grouped in
     last-put (start .args .room) (start .args .at) (start .args .rest .now) (grouped .encode-one .result) (start .args .out .now) (one grouped) (start .pre .3)
     (c .before .before .before .before .before .before .put-group .ensures .0) (c .before .before .put-end .ensures)
 
@@ -60,10 +73,12 @@ encode-two-requires : tie.Need-encode-two-requires
 encode-two-requires c κs = search needs
 
 put-group-requires-2 : tie.Need-put-group-requires-2
-put-group-requires-2 c κs = (c .before .before .before .before .before .before .before .before .pre .2, omega (arith, two-room c))
+put-group-requires-2 c κs = (start2 c .pre .2, omega (arith, room (start2 c) (c .encode-two .result) (two c)))
 
 put-end-requires-2 : tie.Need-put-end-requires-2
-put-end-requires-2 c κs = omega (arith, c .before .before .before .put-group2 .ensures .0 .ends, two-room (c .before .before .before .before))
+put-end-requires-2 c κs =
+    let grouped = c .before .before .before .before in
+    omega (arith, c .before .before .before .put-group2 .ensures .0 .ends, room (start2 grouped) (grouped .encode-two .result) (two grouped))
 
 same-length-2 : tie.Need-same-length-2
 same-length-2 c = search needs
@@ -71,7 +86,7 @@ same-length-2 c = search needs
 returns-2 : tie.Need-returns-2
 returns-2 c =
     let grouped = c .before .before .before .before .before .before .before in
-    let start = c .before .before .before .before .before .before .before .before .before .before .before .before .before .before .before in
+    let start = start2 grouped in
     last-put (start .args .room) (start .args .at) (start .args .rest .now) (grouped .encode-two .result) (start .args .out .now) (two grouped) (start .pre .3)
     (c .before .before .before .before .before .before .put-group2 .ensures .0) (c .before .before .put-end2 .ensures)
 

@@ -58,7 +58,7 @@ returns : tie.Need-returns
 returns c =
     let told = c .before .before .before .before .before .before .before in
     let small = lt-ltb _ _ (c .before .before .before .before .if1 .taken) in
-    answer-judged _ _ _ _ (octets (c .before .before .before .before .before .before .before .before .before)) (judged-taken told) _ _ (rw small) (c .before .before .clear .ensures ∙ rw small)
+    answer-judged _ _ _ _ (octets (told .before .before)) (judged-taken told) _ _ (rw small) (c .before .before .clear .ensures ∙ rw small)
 
 put-text-requires : tie.Need-put-text-requires
 put-text-requires c κs =
@@ -77,7 +77,7 @@ returns-2 : tie.Need-returns-2
 returns-2 c =
     let told = c .before .before .before .before .before .before .before in
     let room = le-ltb _ _ (c .before .before .before .before .if1 .left) in
-    answer-judged _ _ _ _ (octets (c .before .before .before .before .before .before .before .before .before)) (judged-taken told) _ _ (rw room) (c .before .before .put-text .ensures ∙ rw (room, fitting-size told))
+    answer-judged _ _ _ _ (octets (told .before .before)) (judged-taken told) _ _ (rw room) (c .before .before .put-text .ensures ∙ rw (room, fitting-size told))
 
 same-length-3 : tie.Need-same-length-3
 same-length-3 c = search needs
@@ -85,7 +85,8 @@ same-length-3 c = search needs
 returns-3 : tie.Need-returns-3
 returns-3 c =
     let told = c .before .before .before .before .before in
-    answer-judged _ _ _ _ (octets (c .before .before .before .before .before .before .before)) (sym (c .before .before .before .before .before .before .before .judge .ensures) ∙ told .refusal .given .1) _ _ refl (c .before .before .clear2 .ensures)
+    let judged = told .before .before in
+    answer-judged _ _ _ _ (octets judged) (sym (judged .judge .ensures) ∙ told .refusal .given .1) _ _ refl (c .before .before .clear2 .ensures)
 
 pub write-spec : {M : Type 1} → statement M
 write-spec =
