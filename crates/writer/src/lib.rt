@@ -6,12 +6,11 @@ ghost use Prim.Native.Nat.{_+_, _-_, _≤_, _<_};
 ghost use lib.ListN.{length, replicate};
 ghost use Rattle.base64.specs.Alphabet.{alphabet};
 ghost use Rattle.base64.specs.Groups.{encode};
-ghost use Rattle.grammar.specs.Grammars.{lineChars};
 ghost use Rattle.machine.proofs.Machine.{labelEnds};
 ghost use Rattle.reading.specs.Limits.{labelLimit};
 ghost use Rattle.writing.specs.Limits.{dataLimit};
 ghost use Rattle.writing.specs.Answers.{numberOf};
-ghost use Rattle.writing.specs.Text.{lineEnd, inLines, writtenText, writtenSize};
+ghost use Rattle.writing.specs.Text.{lineEnd, inLines, writtenLines, writtenText, writtenSize};
 ghost use Rattle.writing.specs.Meaning.{Writes};
 ghost use Rattle.writing.specs.Write.{isLabel, judgeOf, writeOf, writeOutput};
 ghost use Rattle.writing.proofs.Placed.{Put};
@@ -110,7 +109,9 @@ fn judge(label: &[u8], content: &[u8]) -> Judgement
     Judgement::Taken(text_size(label.len(), content.len()))
 }
 
-// Copies bytes into the output from `at` on, and answers where they end.
+// Each of the functions below that writes from a place on answers where what it wrote ends.
+
+// Copies bytes into the output.
 fn put_bytes(out: &mut [u8], at: usize, bytes: &[u8]) -> usize
     requires { ⌜ at + length (now bytes) ≤ length (now out) ⌝ }
     ensures { λ r. ⌜ Put (now (out .entry)) at (now (bytes .entry)) (now (out .exit)) r ⌝ }
@@ -205,8 +206,8 @@ fn put_last_line(table: &[u8; 64], rest: &[u8], out: &mut [u8], at: usize, room:
 
 // Writes the lines of the data.
 fn put_lines(table: &[u8; 64], content: &[u8], out: &mut [u8], from: usize) -> usize
-    requires { ⌜ (now table ≡ alphabet) × (from + length (inLines lineChars (encode (now content))) ≤ length (now out)) ⌝ }
-    ensures { λ r. ⌜ Put (now (out .entry)) from (inLines lineChars (encode (now (content .entry)))) (now (out .exit)) r ⌝ }
+    requires { ⌜ (now table ≡ alphabet) × (from + length (writtenLines (now content)) ≤ length (now out)) ⌝ }
+    ensures { λ r. ⌜ Put (now (out .entry)) from (writtenLines (now (content .entry))) (now (out .exit)) r ⌝ }
 {
     let mut at = from;
     let mut room = LINE_CHARS;

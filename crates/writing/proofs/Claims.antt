@@ -3,7 +3,7 @@ use mathlib.Core.Path.{_≡_, refl, sym, ap, subst, _∙_}
 use mathlib.Core.Logic.{_≢_}
 use mathlib.Core.Bool.{Bool, true, false, cond}
 use mathlib.Core.List.{List, [], _∷_, _++_, map}
-use Prim.Native.Nat.{ℕ, _+_, _*_, _-_, _/_, _≤_}
+use Prim.Native.Nat.{ℕ, _+_, _-_, _≤_}
 use lib.Dec.{ltb}
 use lib.ListN.{length, take, replicate, length-append}
 use lib.Seq.{take-append-seam}
@@ -22,9 +22,8 @@ use Rattle.grammar.specs.declared.Numbered.the-variants.{Known}
 use Rattle.grammar.proofs.Message.{strict-shape, strict-consistent}
 use Rattle.grammar.proofs.Bundle.{later-shapes, bundle-unique}
 use Rattle.grammar.proofs.Counts.{characters-append}
-use Rattle.reading.specs.Limits.{textLimit, labelLimit}
 use Rattle.reading.specs.Meaning.{Passed}
-use Rattle.reading.specs.Read.{readOf, outputOf, labelOf}
+use Rattle.reading.specs.Read.{labelOf}
 use Rattle.reading.specs.Answers as reader
 use Rattle.reading.specs.Answers.{byteCount, span}
 use Rattle.reading.specs.declared.ReadAnswer.the-variants as read
@@ -33,16 +32,33 @@ use Rattle.writing.specs.Limits.{dataLimit}
 use Rattle.writing.specs.Answers.{textSize, refusalNumber, numberOf, sizeOf}
 use Rattle.writing.specs.Text.{writtenText, writtenSize}
 use Rattle.writing.specs.Meaning as rows
-use Rattle.writing.specs.Meaning.{Takes, LFOnly}
+use Rattle.writing.specs.Meaning.{Refuses, Takes, LFOnly}
 use Rattle.writing.specs.Write.{judgeOf, answered, writeOf, writeOutput}
-use Rattle.writing.specs.Claims.{Written, ReadsBack, dataRead, Restores, largest, Largest, TakesItem, WrittenList, none, next, OneList}
+use Rattle.writing.specs.Claims.{TakesExactly, Written, ReadsBack, dataRead, Restores, largest, Largest, TakesItem, WrittenList, none, next, OneList}
 use Rattle.writing.specs.declared.Judgement.{Judgement}
 use Rattle.writing.specs.declared.WriteAnswer.the-variants as answer
 use Rattle.writing.specs.declared.WriteRefusal.{WriteRefusal}
 use Rattle.writing.specs.declared.WriteRefusal.the-variants.{LabelTooLong, NotALabel, NoData, DataTooLong}
 use Rattle.writing.proofs.Lines.{lines-some}
 use Rattle.writing.proofs.Text.{writtenReading, written-shape, written-consistent, written-data, reading-written, length-written}
-use Rattle.writing.proofs.Meaning.{Judged, takes, refuses, judge-means, takes-answer}
+use Rattle.writing.proofs.Meaning.{Judged, takes, refuses, judge-means, takes-judge, refuses-judge, takes-answer}
+
+-- ---- what the writer takes
+
+pub takes-exactly : TakesExactly
+takes-exactly = record { only = only; always = always }
+  where
+    only : (label content : List ℕ) → Takes label content → (refusal : WriteRefusal) → ¬ Refuses label content refusal
+    only label content t refusal f =
+        let z : _≡_ {A = ℕ} 0 1 = cc (takes-judge label content t, refuses-judge label content refusal f) in
+        omega arith
+
+    always : (label content : List ℕ) → ((refusal : WriteRefusal) → ¬ Refuses label content refusal) → Takes label content
+    always label content unrefused = go (judgeOf label content) (judge-means label content)
+      where
+        go : (j : Judgement) → Judged label content j → Takes label content
+        go j (takes t) = t
+        go j (refuses {refusal} f) = absurd (unrefused refusal f)
 
 -- ---- the writer's result
 

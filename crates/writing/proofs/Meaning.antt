@@ -4,7 +4,7 @@ use mathlib.Core.Logic.{_≢_}
 use mathlib.Core.Bool.{Bool, true, false, cond, true≢false}
 use mathlib.Core.List.{List, [], _∷_, _++_}
 use Prim.Native.Nat.{ℕ, _-_, _≤_, _<_}
-use lib.Dec.{eqb, ltb}
+use lib.Dec.{ltb}
 use lib.ListN.{length, replicate}
 use native.Mathlib.Omega.{arith}
 use borrow.Author.Tests.{eqb-true, eqb-false, ltb-true, ltb-false, lt-ltb, le-ltb, ne-eqb}
@@ -17,7 +17,7 @@ use Rattle.writing.specs.Limits.{dataLimit}
 use Rattle.writing.specs.Answers.{textSize}
 use Rattle.writing.specs.Text.{writtenText, writtenSize}
 use Rattle.writing.specs.Meaning as rows
-use Rattle.writing.specs.Meaning.{Refuses, Takes, StrictText, Writes}
+use Rattle.writing.specs.Meaning.{Refuses, Takes, Writes}
 use Rattle.writing.specs.Write.{isLabel, judgeOf, answered, writeOf, filled, writeOutput}
 use Rattle.writing.specs.declared.Judgement.{Judgement}
 use Rattle.writing.specs.declared.Judgement.the-variants as judgement
@@ -25,8 +25,7 @@ use Rattle.writing.specs.declared.TextSize.{TextSize}
 use Rattle.writing.specs.declared.WriteAnswer.{WriteAnswer}
 use Rattle.writing.specs.declared.WriteAnswer.the-variants as answer
 use Rattle.writing.specs.declared.WriteRefusal.{WriteRefusal}
-use Rattle.writing.specs.declared.WriteRefusal.the-variants.{LabelTooLong, NotALabel, NoData, DataTooLong}
-use Rattle.writing.proofs.Text.{some-length, written-strict, strict-written, length-written}
+use Rattle.writing.proofs.Text.{written-strict, strict-written, length-written}
 
 -- ---- Checks 11 to 14
 
@@ -89,7 +88,7 @@ not-label : (label : List ℕ) (b : Bool) → isLabel label ≡ b → ¬ Label l
 not-label label true e h = absurd (h (test-label label e))
 not-label label false e h = refl
 
-refuses-judge : (label content : List ℕ) (refusal : WriteRefusal) → Refuses label content refusal → judgeOf label content ≡ judgement.Refused refusal
+pub refuses-judge : (label content : List ℕ) (refusal : WriteRefusal) → Refuses label content refusal → judgeOf label content ≡ judgement.Refused refusal
 refuses-judge label content refusal (rows.labelTooLong h) = rw (lt-ltb labelLimit (length label) h)
 refuses-judge label content refusal (rows.notALabel s h) = rw (le-ltb labelLimit (length label) s, not-label label (isLabel label) refl h)
 refuses-judge label content refusal (rows.noData s l e) = rw (le-ltb labelLimit (length label) s, label-test l, e)

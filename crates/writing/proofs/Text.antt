@@ -2,7 +2,7 @@
 use mathlib.Core.Path.{_≡_, refl, sym, ap, subst, _∙_}
 use mathlib.Core.Logic.{_≢_, inl, inr}
 use mathlib.Core.Bool.{Bool, true, false, cond, false≢true}
-use mathlib.Core.List.{List, [], _∷_, _++_, append-assoc, append-nil}
+use mathlib.Core.List.{List, [], _∷_, _++_, append-nil}
 use Prim.Native.Nat.{ℕ, zero, suc, _+_, _*_, _-_, _/_, _≤_}
 use native.Mathlib.Omega.{arith}
 use lib.Dec.{eqb, ltb}
@@ -10,11 +10,11 @@ use lib.ListN.{length, replicate, length-append, length-map, length-replicate}
 use borrow.Author.Tests.{eqb-false, ltb-true}
 use Rattle.base64.specs.Lists.{All}
 use Rattle.base64.specs.Alphabet.{radix, Sextet, Octet, AlphabetChar, charOf, valueOf, pad}
-use Rattle.base64.specs.Groups.{toValues, padsFor, spareBits, valuesOf, charsOf, encode, decode}
+use Rattle.base64.specs.Groups.{toValues, padsFor, valuesOf, charsOf, encode, decode}
 use Rattle.base64.proofs.Lists.{all-append, all-front, all-back, all-imp, all-map, map-undone}
 use Rattle.base64.proofs.Alphabet.{value-char}
 use Rattle.base64.proofs.Groups.{values-sextets, values-spare, values-counts, counts-pads, decode-chars, encode-decode, length-encode}
-use Rattle.grammar.specs.Marks.{CR, LF, LineEnd, lf, begin, end, hyphens, opening, closing, LabelChar, Separator, LabelChars, last, next, separated, Label, empty, chars}
+use Rattle.grammar.specs.Marks.{CR, LF, lf, begin, end, hyphens, opening, closing, LabelChar, Separator, LabelChars, last, next, separated, Label, empty, chars}
 use Rattle.grammar.specs.Grammars.{lineChars, StrictLines, StrictBody}
 use Rattle.grammar.specs.Message.{Reading, textOf, Shape, characters, padCount, Consistent, dataOf, Message}
 use Rattle.grammar.specs.declared.Grammar.the-variants.{Strict}

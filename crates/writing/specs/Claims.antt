@@ -18,11 +18,17 @@ use Rattle.reading.specs.Read.{readOf, outputOf, labelOf}
 use Rattle.reading.specs.declared.ReadAnswer.the-variants as read
 use Rattle.writing.specs.Limits.{dataLimit}
 use Rattle.writing.specs.Answers.{textSize, numberOf, sizeOf}
-use Rattle.writing.specs.Meaning.{Takes, LFOnly}
+use Rattle.writing.specs.Meaning.{Refuses, Takes, LFOnly}
 use Rattle.writing.specs.Write.{writeOf, writeOutput}
 use Rattle.writing.specs.declared.WriteAnswer.the-variants.{Accepted}
+use Rattle.writing.specs.declared.WriteRefusal.{WriteRefusal}
 
 -- ---- One message
+
+-- The writer takes a label and data exactly where none of 11 to 14 applies.
+pub record TakesExactly : Type 0 where
+  pub only : (label content : List ℕ) → Takes label content → (refusal : WriteRefusal) → ¬ Refuses label content refusal
+  pub always : (label content : List ℕ) → ((refusal : WriteRefusal) → ¬ Refuses label content refusal) → Takes label content
 
 -- The text is the writer's result for the label and data, given room: the call answers 0, and its output starts with so many
 -- bytes as its size says.

@@ -1,6 +1,6 @@
 -- What `write` answers, as functions of the label, the data and the output's length alone, check by check in the requirements'
 -- order. Assumes nothing. None of this has to be believed: see `Meaning`.
-use mathlib.Core.Bool.{Bool, true, false, cond}
+use mathlib.Core.Bool.{Bool, cond}
 use mathlib.Core.List.{List, _++_}
 use Prim.Native.Nat.{ℕ, _-_}
 use lib.Dec.{eqb, ltb}

@@ -1,8 +1,7 @@
 -- `writer::put_group` meets its contract: the line's end where it is full, and then the characters. Assumes nothing.
 use borrow.Author.Needs.{needs}
-use mathlib.Core.Path.{_≡_}
 use native.Mathlib.Omega.{arith}
-use lib.ListN.{length, length-append}
+use lib.ListN.{length-append}
 use Rattle.writing.proofs.Placed.{put-more}
 use Rattle.writing.proofs.Progress.{lineBreak, group-fits}
 use Rattle.writer.proofs.put_group.Statement.{statement}
