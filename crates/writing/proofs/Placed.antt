@@ -63,13 +63,20 @@ placed-four out at a b c d h =
     let three : at + 3 ≡ suc (suc (suc at)) = omega arith in
     rw (one, two, three) (sets-eq (a ∷ b ∷ c ∷ d ∷ []) out at h ∙ append-assoc (take at out) (a ∷ b ∷ c ∷ d ∷ []) (drop (at + 4) out))
 
-pub four-elements : (l : List ℕ) → length l ≡ 4 → l ≡ getD l 0 0 ∷ getD l 1 0 ∷ getD l 2 0 ∷ getD l 3 0 ∷ []
-four-elements [] h = absurd (omega arith)
-four-elements (a ∷ []) h = absurd (omega arith)
-four-elements (a ∷ b ∷ []) h = absurd (omega arith)
-four-elements (a ∷ b ∷ c ∷ []) h = absurd (omega arith)
-four-elements (a ∷ b ∷ c ∷ d ∷ []) h = refl
-four-elements (a ∷ b ∷ c ∷ d ∷ e ∷ l) h = absurd (omega arith)
+-- A list by its places.
+abbrev places : List ℕ → ℕ → ℕ → List ℕ
+places l k zero = []
+places l k (suc n) = getD l k 0 ∷ places l (suc k) n
+
+places-behind : (x : ℕ) (l : List ℕ) (k n : ℕ) → places l k n ≡ places (x ∷ l) (suc k) n
+places-behind x l k zero = refl
+places-behind x l k (suc n) = ap (λ (r : List ℕ). getD l k 0 ∷ r) (places-behind x l (suc k) n)
+
+pub by-places : (l : List ℕ) (n : ℕ) → length l ≡ n → l ≡ places l 0 n
+by-places [] zero h = refl
+by-places [] (suc n) h = absurd (omega arith)
+by-places (x ∷ l) zero h = absurd (omega arith)
+by-places (x ∷ l) (suc n) h = ap (λ (r : List ℕ). x ∷ r) (by-places l n (omega arith) ∙ places-behind x l 0 n)
 
 drop-replicate : (n m v : ℕ) → drop m (replicate n v) ≡ replicate (n - m) v
 drop-replicate zero m v =

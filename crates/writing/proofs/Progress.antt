@@ -142,33 +142,12 @@ module _ {content old : List ℕ} {from : ℕ} {out : List ℕ} {p : Cursor} {i 
 
 -- ---- the last line
 
-one-element : (l : List ℕ) → length l ≡ 1 → l ≡ getD l 0 0 ∷ []
-one-element [] h = absurd (omega arith)
-one-element (a ∷ []) h = refl
-one-element (a ∷ b ∷ l) h = absurd (omega arith)
-
-two-elements : (l : List ℕ) → length l ≡ 2 → l ≡ getD l 0 0 ∷ getD l 1 0 ∷ []
-two-elements [] h = absurd (omega arith)
-two-elements (a ∷ []) h = absurd (omega arith)
-two-elements (a ∷ b ∷ []) h = refl
-two-elements (a ∷ b ∷ c ∷ l) h = absurd (omega arith)
-
--- A last group of one or two bytes and the line end, or the line end alone.
-pub last-one : (room : ℕ) (rest group : List ℕ) → WholeGroups room → length rest ≡ 1 → group ≡ encode (getD rest 0 0 ∷ [])
+-- A last group and the line end, or the line end alone.
+pub last-group : (room a b c d : ℕ) (rest group : List ℕ) → WholeGroups room → encode rest ≡ a ∷ b ∷ c ∷ d ∷ [] → group ≡ a ∷ b ∷ c ∷ d ∷ []
     → inLines room (encode rest) ≡ groupText room group ++ lineEnd
 unfolding inLines
-last-one room rest group h one isGroup =
-    ap (λ (l : List ℕ). inLines room (encode l)) (one-element rest one)
-    ∙ group-lines room _ _ _ _ [] h .0
-    ∙ ap (λ (g : List ℕ). groupText room g ++ lineEnd) (sym isGroup)
-
-pub last-two : (room : ℕ) (rest group : List ℕ) → WholeGroups room → length rest ≡ 2 → group ≡ encode (getD rest 0 0 ∷ getD rest 1 0 ∷ [])
-    → inLines room (encode rest) ≡ groupText room group ++ lineEnd
-unfolding inLines
-last-two room rest group h two isGroup =
-    ap (λ (l : List ℕ). inLines room (encode l)) (two-elements rest two)
-    ∙ group-lines room _ _ _ _ [] h .0
-    ∙ ap (λ (g : List ℕ). groupText room g ++ lineEnd) (sym isGroup)
+last-group room a b c d rest group h e isGroup =
+    ap (inLines room) e ∙ group-lines room a b c d [] h .0 ∙ ap (λ (g : List ℕ). groupText room g ++ lineEnd) (sym isGroup)
 
 pub last-none : (room : ℕ) (rest : List ℕ) → length rest < 3 → length rest ≢ 1 → length rest ≢ 2 → inLines room (encode rest) ≡ lineEnd
 unfolding inLines

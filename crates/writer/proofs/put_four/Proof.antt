@@ -3,7 +3,7 @@ use borrow.Author.Needs.{needs}
 use mathlib.Core.Path.{_≡_, sym, ap, _∙_}
 use native.Mathlib.Omega.{arith}
 use lib.ListN.{length, length-set}
-use Rattle.writing.proofs.Placed.{placed, placed-four, four-elements}
+use Rattle.writing.proofs.Placed.{placed, placed-four, by-places}
 use Rattle.writer.proofs.put_four.Statement.{statement}
 use Rattle.writer.proofs.put_four.Tie as tie
 
@@ -52,7 +52,7 @@ returns c =
     let group = c .args .t3 in
     let size : length group ≡ 4 = omega arith in
     record {
-      output = placed-four out (c .args .at) _ _ _ _ (omega arith) ∙ ap (placed out (c .args .at)) (sym (four-elements group size));
+      output = placed-four out (c .args .at) _ _ _ _ (omega arith) ∙ ap (placed out (c .args .at)) (sym (by-places group 4 size));
       ends = omega arith;
     }
 

@@ -7,7 +7,8 @@ use native.Mathlib.Omega.{arith}
 use lib.ListN.{length}
 use Rattle.base64.specs.Groups.{encode}
 use Rattle.writing.specs.Text.{lineEnd, inLines}
-use Rattle.writing.proofs.Progress.{groupText, last-one, last-two, last-none, last-room, last-put}
+use Rattle.writing.proofs.Placed.{by-places}
+use Rattle.writing.proofs.Progress.{groupText, last-group, last-none, last-room, last-put}
 use Rattle.writer.proofs.put_last_line.Statement.{statement}
 use Rattle.writer.proofs.put_last_line.Tie as tie
 
@@ -26,10 +27,10 @@ abbrev lines : tie.Start → List ℕ
 lines s = inLines (s .args .room) (encode (s .args .rest .now))
 
 one : (c : tie.After-encode-one) → lines (start1 c) ≡ groupText (start1 c .args .room) (c .encode-one .result) ++ lineEnd
-one c = last-one (start1 c .args .room) (start1 c .args .rest .now) (c .encode-one .result) (start1 c .pre .2) (c .before .before .before .if1 .taken) (c .encode-one .ensures)
+one c = last-group (start1 c .args .room) _ _ _ _ (start1 c .args .rest .now) (c .encode-one .result) (start1 c .pre .2) (ap encode (by-places (start1 c .args .rest .now) 1 (c .before .before .before .if1 .taken))) (c .encode-one .ensures)
 
 two : (c : tie.After-encode-two) → lines (start2 c) ≡ groupText (start2 c .args .room) (c .encode-two .result) ++ lineEnd
-two c = last-two (start2 c .args .room) (start2 c .args .rest .now) (c .encode-two .result) (start2 c .pre .2) (c .before .before .before .before .if2 .taken) (c .encode-two .ensures)
+two c = last-group (start2 c .args .room) _ _ _ _ (start2 c .args .rest .now) (c .encode-two .result) (start2 c .pre .2) (ap encode (by-places (start2 c .args .rest .now) 2 (c .before .before .before .before .if2 .taken))) (c .encode-two .ensures)
 
 none : (c : tie.Else2) → lines (start0 c) ≡ lineEnd
 none c = last-none (start0 c .args .room) (start0 c .args .rest .now) (start0 c .pre .1) (c .before .if1 .left) (c .if2 .left)
