@@ -29,6 +29,10 @@ bytes-octets (a ∷ b ∷ []) h = (omega arith, tt)
 bytes-octets (a ∷ b ∷ c ∷ []) h = (omega arith, (omega arith, tt))
 bytes-octets (a ∷ b ∷ c ∷ d ∷ r) h = (omega arith, (omega arith, (omega arith, bytes-octets r (h .1 .1 .1 .1))))
 
+-- The characters of bytes are those of the alphabet.
+pub chars-alphabet : (d : List ℕ) → All Octet d → All AlphabetChar (charsOf d)
+chars-alphabet d h = all-map charOf Sextet AlphabetChar (λ v k. rw (value-char v k) k) (toValues d) (values-sextets d h)
+
 -- What is encoded has no spare bits, and its counts fit.
 pub values-spare : (d : List ℕ) → spareBits (toValues d) ≡ 0
 values-spare [] = refl
@@ -82,8 +86,11 @@ bytes-values (x ∷ y ∷ []) h = λ i. byte1-back x y (h .1 .0) i ∷ byte2-bac
 bytes-values (x ∷ y ∷ z ∷ r) h =
     λ i. byte1-back x y (h .1 .0) i ∷ byte2-back x y z (h .1 .0) (h .1 .1 .0) i ∷ byte3-back y z (h .1 .1 .0) i ∷ bytes-values r (h .1 .1 .1) i
 
+pub values-chars : (d : List ℕ) → All Octet d → valuesOf (charsOf d) ≡ toValues d
+values-chars d h = map-undone charOf valueOf Sextet value-char (toValues d) (values-sextets d h)
+
 pub decode-chars : (d : List ℕ) → All Octet d → decode (charsOf d) ≡ d
-decode-chars d h = ap toBytes (map-undone charOf valueOf Sextet value-char (toValues d) (values-sextets d h)) ∙ bytes-values d h
+decode-chars d h = ap toBytes (values-chars d h) ∙ bytes-values d h
 
 -- ---- encoding inverts decoding where the spare bits are zero
 

@@ -7,7 +7,7 @@ use Prim.Native.Nat.{ℕ, zero, suc, _+_, _%_}
 use native.Mathlib.Omega.{arith}
 use lib.Dec.{eqb, ltb}
 use lib.ListN.{length, replicate, length-append}
-use borrow.Author.Tests.{lt-ltb, ne-eqb}
+use borrow.Author.Tests.{ltb-true, lt-ltb, ne-eqb}
 use Rattle.base64.specs.Lists.{All}
 use Rattle.base64.specs.Alphabet.{AlphabetChar, alphabet, placeIn, valueOf, radix, pad}
 use Rattle.base64.specs.Groups.{CountsFit}
@@ -45,6 +45,16 @@ pub characters-alphabet : (a : List ℕ) → All AlphabetChar a → characters a
 unfolding characters
 characters-alphabet [] h = refl
 characters-alphabet (c ∷ a) h = rw (lt-ltb (valueOf c) radix (h .0)) (ap (λ (l : List ℕ). c ∷ l) (characters-alphabet a (h .1)))
+
+-- Whatever the body, its characters are such.
+pub characters-all : (l : List ℕ) → All AlphabetChar (characters l)
+unfolding characters
+characters-all [] = tt
+characters-all (c ∷ l) = go (ltb (valueOf c) radix) refl (characters-all l)
+  where
+    go : (b : Bool) → ltb (valueOf c) radix ≡ b → All AlphabetChar (characters l) → All AlphabetChar (cond b (c ∷ characters l) (characters l))
+    go true e h = (ltb-true (valueOf c) radix e, h)
+    go false e h = h
 
 alphabet-no-pad : (c : ℕ) → AlphabetChar c → c ≢ pad
 alphabet-no-pad c h e = pad-no-alphabet (rw e at h)

@@ -18,7 +18,7 @@ use Rattle.writing.specs.Answers.{textSize}
 use Rattle.writing.specs.Text.{writtenText, writtenSize}
 use Rattle.writing.specs.Meaning as rows
 use Rattle.writing.specs.Meaning.{Refuses, Takes, Writes}
-use Rattle.writing.specs.Write.{isLabel, judgeOf, answered, writeOf, filled, writeOutput}
+use Rattle.writing.specs.Write.{longLabel, isLabel, noData, longData, judgeOf, tooSmall, answered, writeOf, filled, writeOutput}
 use Rattle.writing.specs.declared.Judgement.{Judgement}
 use Rattle.writing.specs.declared.Judgement.the-variants as judgement
 use Rattle.writing.specs.declared.TextSize.{TextSize}
@@ -41,6 +41,39 @@ pub data Judged (label content : List ℕ) : Judgement → Type 0 where
   takes : Takes label content → Judged label content (taken label content)
   refuses : {refusal : WriteRefusal} → Refuses label content refusal → Judged label content (judgement.Refused refusal)
 
+-- What the tests tell.
+long-label : (label : List ℕ) → longLabel label ≡ true → labelLimit < length label
+long-label label e = omega (arith, ltb-true)
+
+short-label : (label : List ℕ) → longLabel label ≡ false → length label ≤ labelLimit
+short-label label e = omega (arith, ltb-false)
+
+no-data : (content : List ℕ) → noData content ≡ true → content ≡ []
+no-data content e = no-length content (omega (arith, eqb-true))
+
+some-data : (content : List ℕ) → noData content ≡ false → content ≢ []
+some-data content e n = eqb-false _ _ e (ap length n)
+
+long-data : (content : List ℕ) → longData content ≡ true → dataLimit < length content
+long-data content e = omega (arith, ltb-true)
+
+short-data : (content : List ℕ) → longData content ≡ false → length content ≤ dataLimit
+short-data content e = omega (arith, ltb-false)
+
+too-small : (room n : ℕ) → room < n → tooSmall room n ≡ true
+too-small room n h = go (tooSmall room n) refl
+  where
+    go : (b : Bool) → tooSmall room n ≡ b → b ≡ true
+    go true e = refl
+    go false e = absurd (omega (arith, ltb-false))
+
+roomy : (room n : ℕ) → n ≤ room → tooSmall room n ≡ false
+roomy room n h = go (tooSmall room n) refl
+  where
+    go : (b : Bool) → tooSmall room n ≡ b → b ≡ false
+    go true e = absurd (omega (arith, ltb-true))
+    go false e = refl
+
 -- By a test: what holds of both answers holds of the one that it picks.
 by-test : {A : Type 0} (P : A → Type 0) (b : Bool) (x y : A) → (b ≡ true → P x) → (b ≡ false → P y) → P (cond b x y)
 by-test P true x y f g = f refl
@@ -49,19 +82,19 @@ by-test P false x y f g = g refl
 pub judge-means : (label content : List ℕ) → Judged label content (judgeOf label content)
 judge-means label content =
     by-test J _ _ _
-    (λ long. refuses (rows.labelTooLong (ltb-true _ _ long)))
+    (λ long. refuses (rows.labelTooLong (long-label label long)))
     (λ short. by-test J _ _ _
     (λ isLabel. by-test J _ _ _
-    (λ none. refuses (rows.noData (ltb-false _ _ short) (test-label label isLabel) (no-length content (eqb-true _ _ none))))
+    (λ none. refuses (rows.noData (short-label label short) (test-label label isLabel) (no-data content none)))
     (λ some. by-test J _ _ _
-    (λ long. refuses (rows.dataTooLong (ltb-false _ _ short) (test-label label isLabel) (ltb-true _ _ long)))
+    (λ long. refuses (rows.dataTooLong (short-label label short) (test-label label isLabel) (long-data content long)))
     (λ few. takes record {
-      shortLabel = ltb-false _ _ short;
+      shortLabel = short-label label short;
       isLabel = test-label label isLabel;
-      someData = λ e. eqb-false _ _ some (ap length e);
-      shortData = ltb-false _ _ few;
+      someData = some-data content some;
+      shortData = short-data content few;
     })))
-    (λ no. refuses (rows.notALabel (ltb-false _ _ short) (λ h. true≢false (sym (label-test h) ∙ no)))))
+    (λ no. refuses (rows.notALabel (short-label label short) (λ h. true≢false (sym (label-test h) ∙ no)))))
   where
     J : Judgement → Type 0
     J = Judged label content
@@ -109,12 +142,12 @@ picks-second b x y e = rw e
 room-answer : (text : List ℕ) (n room : ℕ) → n ≡ length text → length text ≤ room
     → (answered (judgement.Taken (textSize n)) room ≡ answer.Accepted (textSize (length text)))
     × (filled (judgement.Taken (textSize n)) text room ≡ text ++ replicate (room - length text) 0)
-room-answer text n room e h = rw e (picks-second _ _ _ (le-ltb room (length text) h), picks-second _ _ _ (le-ltb room (length text) h))
+room-answer text n room e h = rw e (picks-second _ _ _ (roomy room (length text) h), picks-second _ _ _ (roomy room (length text) h))
 
 small-answer : (text : List ℕ) (n room : ℕ) → n ≡ length text → room < length text
     → (answered (judgement.Taken (textSize n)) room ≡ answer.OutputTooSmall (textSize (length text)))
     × (filled (judgement.Taken (textSize n)) text room ≡ replicate room 0)
-small-answer text n room e h = rw e (picks-first _ _ _ (lt-ltb room (length text) h), picks-first _ _ _ (lt-ltb room (length text) h))
+small-answer text n room e h = rw e (picks-first _ _ _ (too-small room (length text) h), picks-first _ _ _ (too-small room (length text) h))
 
 -- What is written of a label and data that the writer takes.
 pub takes-answer : (label content : List ℕ) (room : ℕ) → Takes label content → length (writtenText label content) ≤ room

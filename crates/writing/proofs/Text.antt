@@ -5,21 +5,20 @@ use mathlib.Core.Bool.{Bool, true, false, cond, false≢true}
 use mathlib.Core.List.{List, [], _∷_, _++_, append-nil}
 use Prim.Native.Nat.{ℕ, zero, suc, _+_, _*_, _-_, _/_, _≤_}
 use native.Mathlib.Omega.{arith}
-use lib.Dec.{eqb, ltb}
+use lib.Dec.{eqb}
 use lib.ListN.{length, replicate, length-append, length-map, length-replicate}
-use borrow.Author.Tests.{eqb-false, ltb-true}
+use borrow.Author.Tests.{eqb-false}
 use Rattle.base64.specs.Lists.{All}
-use Rattle.base64.specs.Alphabet.{radix, Sextet, Octet, AlphabetChar, charOf, valueOf, pad}
-use Rattle.base64.specs.Groups.{toValues, padsFor, valuesOf, charsOf, encode, decode}
-use Rattle.base64.proofs.Lists.{all-append, all-front, all-back, all-imp, all-map, map-undone}
-use Rattle.base64.proofs.Alphabet.{value-char}
-use Rattle.base64.proofs.Groups.{values-sextets, values-spare, values-counts, counts-pads, decode-chars, encode-decode, length-encode}
+use Rattle.base64.specs.Alphabet.{Octet, AlphabetChar, pad}
+use Rattle.base64.specs.Groups.{toValues, padsFor, charsOf, encode, decode}
+use Rattle.base64.proofs.Lists.{all-append, all-front, all-back, all-imp}
+use Rattle.base64.proofs.Groups.{chars-alphabet, values-spare, values-counts, counts-pads, values-chars, decode-chars, encode-decode, length-encode}
 use Rattle.grammar.specs.Marks.{CR, LF, lf, begin, end, hyphens, opening, closing, LabelChar, Separator, LabelChars, last, next, separated, Label, empty, chars}
 use Rattle.grammar.specs.Grammars.{lineChars, StrictLines, StrictBody}
 use Rattle.grammar.specs.Message.{Reading, textOf, Shape, characters, padCount, Consistent, dataOf, Message}
 use Rattle.grammar.specs.declared.Grammar.the-variants.{Strict}
 use Rattle.grammar.proofs.Marks.{end-no-alphabet}
-use Rattle.grammar.proofs.Counts.{characters-append, pads-append, characters-alphabet, pads-alphabet, characters-pads, pads-pads, end-counts}
+use Rattle.grammar.proofs.Counts.{characters-append, pads-append, characters-all, characters-alphabet, pads-alphabet, characters-pads, pads-pads, end-counts}
 use Rattle.writing.specs.Text.{lineEnd, inLines, writtenLines, writtenText, writtenSize}
 use Rattle.writing.specs.Meaning.{LFOnly, StrictText}
 use Rattle.writing.proofs.Lines.{length-lines, characters-lines, pads-lines, all-lines, lines-strict, charsThenPads, end-front, end-lf-only, strict-lines-written}
@@ -29,9 +28,6 @@ use Rattle.writing.proofs.Lines.{length-lines, characters-lines, pads-l
 pub some-length : {A : Type 0} (l : List A) → l ≢ [] → 1 ≤ length l
 some-length [] h = absurd (h refl)
 some-length (x ∷ l) h = omega arith
-
-chars-alphabet : (d : List ℕ) → All Octet d → All AlphabetChar (charsOf d)
-chars-alphabet d h = all-map charOf Sextet AlphabetChar (λ v k. rw (value-char v k) k) (toValues d) (values-sextets d h)
 
 written-lines : (d : List ℕ) → d ≢ [] → All Octet d → StrictLines (writtenLines d)
 written-lines d some h =
@@ -57,14 +53,11 @@ module _ (label content : List ℕ) (octets : All Octet content) where
       pads-append lineEnd (inLines lineChars (encode content))
       ∙ rw (end-counts (lf {rest = []}) .1, pads-lines (encode content) lineChars, pads-append (charsOf content) (replicate (padsFor content) pad), pads-alphabet (charsOf content) (chars-alphabet content octets), pads-pads (padsFor content)) (omega arith)
 
-  values-back : valuesOf (charsOf content) ≡ toValues content
-  values-back = map-undone charOf valueOf Sextet value-char (toValues content) (values-sextets content octets)
-
   pub written-consistent : Consistent Strict (writtenReading label content)
   written-consistent = record {
     labels = refl;
     counts = rw (body-characters, body-pads, length-map) (values-counts content);
-    spare = rw (body-characters, values-back) (values-spare content);
+    spare = rw (body-characters, values-chars content octets) (values-spare content);
   }
 
   pub written-data : dataOf (writtenReading label content) ≡ content
@@ -154,15 +147,6 @@ written-strict label content octets isLabel some = record {
 }
 
 -- ---- there is no other
-
-characters-all : (l : List ℕ) → All AlphabetChar (characters l)
-unfolding characters
-characters-all [] = tt
-characters-all (c ∷ l) = go (ltb (valueOf c) radix) refl (characters-all l)
-  where
-    go : (b : Bool) → ltb (valueOf c) radix ≡ b → All AlphabetChar (characters l) → All AlphabetChar (cond b (c ∷ characters l) (characters l))
-    go true e h = (ltb-true (valueOf c) radix e, h)
-    go false e h = h
 
 -- A strict body with LF line ends is that of its characters and pads.
 strict-body-written : {b : List ℕ} → StrictBody b → LFOnly b → lineEnd ++ inLines lineChars (charsThenPads b) ≡ b

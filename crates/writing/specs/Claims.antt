@@ -30,8 +30,8 @@ pub record TakesExactly : Type 0 where
   pub only : (label content : List ℕ) → Takes label content → (refusal : WriteRefusal) → ¬ Refuses label content refusal
   pub always : (label content : List ℕ) → ((refusal : WriteRefusal) → ¬ Refuses label content refusal) → Takes label content
 
--- The text is the writer's result for the label and data, given room: the call answers 0, and its output starts with so many
--- bytes as its size says.
+-- The text is the writer's result for the label and data, given room: the call answers 0, and the text is the first bytes of its
+-- output, as many as its size says.
 pub record Written (label content text : List ℕ) : Type 0 where
   pub room : ℕ
   pub zero : numberOf (writeOf label content room) ≡ 0
@@ -47,7 +47,7 @@ ReadsBack =
     × (outputOf text number room ≡ content ++ replicate (room - length content) 0)
     × (labelOf text number ≡ label)
 
--- The data that the read call has found in a strict text: so many bytes of its output as its size says.
+-- The data that the read call has found in a strict text: the first bytes of its output, as many as its size says.
 abbrev pub dataRead : List ℕ → ℕ → List ℕ
 dataRead text room = take (reader.sizeOf (readOf text strictNumber room)) (outputOf text strictNumber room)
 
@@ -73,7 +73,7 @@ pub record Largest : Type 0 where
 
 -- ---- Lists of labels and data
 
--- The writer takes an item of bytes.
+-- An item of bytes that the writer takes.
 pub record TakesItem (i : Item) : Type 0 where
   pub octets : All Octet (i .content)
   pub takes : Takes (i .label) (i .content)

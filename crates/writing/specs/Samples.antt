@@ -1,4 +1,4 @@
--- Samples of the write call, as one list under one claim: M of the requirements, lines at their limit, and each refusal.
+-- Samples of the write call, as one list under one claim: M of the requirements, lines at their limit, and the refusals 10 to 13.
 -- Assumes nothing.
 use mathlib.Core.List.{List, [], _∷_, _++_}
 use Prim.Native.Nat.{ℕ}

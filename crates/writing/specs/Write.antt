@@ -17,33 +17,46 @@ use Rattle.writing.specs.declared.WriteRefusal.the-variants.{LabelTooLon
 use Rattle.writing.specs.declared.WriteAnswer.{WriteAnswer}
 use Rattle.writing.specs.declared.WriteAnswer.the-variants.{Accepted, Refused, OutputTooSmall}
 
--- The machine reads these bytes as a label.
+-- ---- Checks 11 to 14
+
+-- The tests of the four. The machine reads bytes as a label, or it does not.
+abbrev pub longLabel : List ℕ → Bool
+longLabel label = ltb labelLimit (length label)
+
 abbrev pub isLabel : List ℕ → Bool
 isLabel label = labelFrom Start label
 
--- ---- Checks 11 to 14
+abbrev pub noData : List ℕ → Bool
+noData content = eqb (length content) 0
+
+abbrev pub longData : List ℕ → Bool
+longData content = ltb dataLimit (length content)
 
 abbrev pub judgeOf : List ℕ → List ℕ → Judgement
 judgeOf label content =
     cond
-    (ltb labelLimit (length label))
+    (longLabel label)
     (judgement.Refused LabelTooLong)
     (cond
     (isLabel label)
     (cond
-    (eqb (length content) 0)
+    (noData content)
     (judgement.Refused NoData)
     (cond
-    (ltb dataLimit (length content))
+    (longData content)
     (judgement.Refused DataTooLong)
     (judgement.Taken (textSize (writtenSize (length label) (length content))))))
     (judgement.Refused NotALabel))
 
 -- ---- Check 10, the answer and the output
 
+-- There is less room than the text needs.
+abbrev pub tooSmall : ℕ → ℕ → Bool
+tooSmall room size = ltb room size
+
 abbrev pub answered : Judgement → ℕ → WriteAnswer
 answered (judgement.Refused r) room = Refused r
-answered (judgement.Taken size) room = cond (ltb room (size .0)) (OutputTooSmall size) (Accepted size)
+answered (judgement.Taken size) room = cond (tooSmall room (size .0)) (OutputTooSmall size) (Accepted size)
 
 abbrev pub writeOf : List ℕ → List ℕ → ℕ → WriteAnswer
 writeOf label content room = answered (judgeOf label content) room
@@ -51,7 +64,7 @@ writeOf label content room = answered (judgeOf label content) room
 -- The text and then zeros, or zeros only.
 abbrev pub filled : Judgement → List ℕ → ℕ → List ℕ
 filled (judgement.Refused r) text room = replicate room 0
-filled (judgement.Taken size) text room = cond (ltb room (size .0)) (replicate room 0) (text ++ replicate (room - size .0) 0)
+filled (judgement.Taken size) text room = cond (tooSmall room (size .0)) (replicate room 0) (text ++ replicate (room - size .0) 0)
 
 abbrev pub writeOutput : List ℕ → List ℕ → ℕ → List ℕ
 writeOutput label content room = filled (judgeOf label content) (writtenText label content) room
