@@ -25,7 +25,7 @@ use reading::Scan;
 use reading::Span;
 
 // How many numbers a table has for each message.
-const ENTRY_NUMBERS: usize = 5;
+pub const ENTRY_NUMBERS: usize = 5;
 
 // Sets every number to zero.
 fn clear(table: &mut [u32])

@@ -1,8 +1,8 @@
 // The index call on one text, and the line that shows its answer.
-use crate::table;
-use sampling::bytes;
-use sampling::lent;
-use sampling::print;
+use support::bytes;
+use support::lent;
+use support::print;
+use support::table;
 
 // What each number of a table is before a call.
 const STALE: u32 = 0xFFFFFFFF;

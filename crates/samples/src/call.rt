@@ -1,7 +1,7 @@
 // The read call and the label call on one text, and the line that shows their answers.
-use sampling::bytes;
-use sampling::lent;
-use sampling::print;
+use support::bytes;
+use support::lent;
+use support::print;
 
 // What the label call answers, and its report. On a refusal the offset of the empty part is left free, so it is not shown.
 fn label(text: &[u8], grammar: u32, refused: bool) {

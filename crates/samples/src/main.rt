@@ -4,22 +4,19 @@
 // between '@' and the next '@'. For the read call and the label call the mode is "each" (a line for each grammar), "brief"
 // (one line for all three) or a grammar's number. For the index call it is "index" (a line for each grammar), "table" with a
 // grammar's number behind it, or "starts" (one line for every start of the text). "#" is a comment. The text is in the printable
-// form of `sampling::expand`, the count being that of its braces.
+// form of `support::expand`, the count being that of its braces.
 mod bundle;
 mod call;
-mod table;
 
 use libc::STDIN_FILENO;
-use sampling::bytes;
-use sampling::expand;
-use sampling::fields;
+use support::bytes;
+use support::expand;
+use support::fields;
+use support::table;
 
 const TEXT_SIZE: usize = 65537;
 
 const OUT_SIZE: usize = 49152;
-
-// 1 + 5 * 2184 numbers: a text has at most 2184 messages, each of 30 bytes or more.
-const TABLE_SIZE: usize = 10921;
 
 fn run(mode: &[u8], name: &[u8], text: &[u8], out: &mut [u8], table: &mut [u32]) {
     match bytes::get(mode, 0) {
@@ -59,7 +56,7 @@ fn sample_at(forms: &[u8], i: usize, text: &mut [u8], out: &mut [u8], table: &mu
 fn samples(forms: &[u8]) {
     let mut text = [0u8; TEXT_SIZE];
     let mut out = [0u8; OUT_SIZE];
-    let mut table = [0u32; TABLE_SIZE];
+    let mut table = [0u32; table::SIZE];
     let mut i = 0;
     while i < forms.len() {
         sample_at(forms, i, &mut text, &mut out, &mut table);

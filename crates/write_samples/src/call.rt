@@ -1,7 +1,7 @@
 // The write call on one label and data, the calls that read back what it wrote, and the line that shows their answers.
-use sampling::bytes;
-use sampling::lent;
-use sampling::print;
+use support::bytes;
+use support::lent;
+use support::print;
 
 // The room, what the write call answers, and its report. Answers how many bytes of the output are the text.
 fn answer(label: &[u8], data: &[u8], out: &mut [u8]) -> usize {

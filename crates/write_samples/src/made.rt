@@ -1,5 +1,5 @@
 // Data that a sample does not spell out.
-use sampling::bytes;
+use support::bytes;
 
 // Puts `count` bytes at `at`, and answers where they end: the triangular numbers 0, 1, 3, 6 .. modulo 256. All 256 bytes are
 // among them, and they repeat after 512, so that neither groups nor lines are alike.

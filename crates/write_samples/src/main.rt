@@ -4,14 +4,14 @@
 // data. It stands between '@' and the next '@'. The mode is "write" (label and data are written), "back" (what was written is
 // then read under each grammar) or "trip" (a text is read under strict, its label and data are written, and what was written is
 // compared with the text and read under each grammar). "#" is a comment. Label, text and data are in the printable form of
-// `sampling::expand`, the count being that of their braces; behind the data stand as many made bytes as the length says.
+// `support::expand`, the count being that of their braces; behind the data stand as many made bytes as the length says.
 mod call;
 mod made;
 
 use libc::STDIN_FILENO;
-use sampling::bytes;
-use sampling::expand;
-use sampling::fields;
+use support::bytes;
+use support::expand;
+use support::fields;
 
 // The longest text that is written.
 const TEXT_SIZE: usize = 44535;

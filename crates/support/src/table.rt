@@ -1,0 +1,44 @@
+// Numbers and parts of lent tables, at any index: what lies outside is zero to read, and left out to write.
+
+// 1 + 5 * 2184 numbers: a text of 65,536 bytes has at most 2184 messages, each of 30 bytes or more.
+pub const SIZE: usize = 10921;
+
+pub fn get(table: &[u32], at: usize) -> u32 {
+    if at < table.len() { table[at] } else { 0 }
+}
+
+fn put(table: &mut [u32], at: usize, number: u32) {
+    if at < table.len() {
+        table[at] = number;
+    }
+}
+
+pub fn fill(table: &mut [u32], number: u32) {
+    let mut i = 0;
+    while i < table.len() {
+        put(table, i, number);
+        i += 1;
+    }
+}
+
+// The numbers from `start` on are zero.
+pub fn zero_from(table: &[u32], start: usize) -> bool {
+    let mut i = start;
+    while i < table.len() {
+        if table[i] != 0 {
+            return false;
+        }
+        i += 1;
+    }
+    true
+}
+
+// The first numbers.
+pub fn first(table: &mut [u32], count: usize) -> &mut [u32] {
+    let start = 0;
+    if count < table.len() {
+        &mut table[start..count]
+    } else {
+        table
+    }
+}
