@@ -1,7 +1,7 @@
 """The linked archive as a library that Python can call, and its calls with lent output, table and report.
 
-These are filled with old values first, and output and table are guarded at both ends, so that a call that leaves an item
-as it was, or writes beyond what it was lent, is seen.
+These are filled with old values first, and output and table are guarded at both ends, so that a call that leaves an
+item as it was, or writes beyond what it was lent, is seen.
 """
 import ctypes
 import os
