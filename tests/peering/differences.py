@@ -34,23 +34,24 @@ def our_cell(answer, variation):
 def row(variation, peer_calls, our_call, ours):
     peers = [peer_cell(call, variation) for call in peer_calls]
     answers = [our_cell(answer, variation) for answer in ours.under_each(our_call, variation.text)]
-    return [variation.name, *peers, *answers, variation.rule]
+    rule = variation.read_rule if our_call == ours.read and variation.read_rule else variation.rule
+    return [variation.name, *peers, *answers, rule]
 
 
-def table(ours, our_call, peer_calls, all_variations):
+def print_table(ours, our_call, peer_calls, all_variations):
     head = ["variation", *peer_calls, *(f"ours, {name}" for name in GRAMMARS), "rule"]
     rows = [row(variation, peer_calls.values(), our_call, ours) for variation in all_variations]
     for cells in [head, ["---"] * len(head), *rows]:
         print("| " + " | ".join(cells) + " |")
 
 
-def printed(ours, peers, maker):
+def print_all(ours, peers, maker):
     found = variations.all_of(maker)
     present = {peer.name: peer for peer in peers}
-    print("Versions: " + "; ".join(dict.fromkeys(peer.version() for peer in peers)) + ".\n")
-    print("### One message: our `read`\n")
     one = {title: present[name].one for name, title in ONE.items() if name in present}
-    table(ours, ours.read, one, found)
-    print("\n### A bundle: our `index`\n")
     several = {title: present[name].several for name, title in SEVERAL.items() if name in present}
-    table(ours, ours.index, several, found)
+    print("Versions: " + "; ".join(dict.fromkeys(peer.version() for peer in peers)) + ".\n")
+    print("### Readers of one message, and our `read`\n")
+    print_table(ours, ours.read, one, found)
+    print("\n### Readers of a bundle, and our `index`\n")
+    print_table(ours, ours.index, several, found)

@@ -16,10 +16,11 @@ SUBJECT = b"Subject: CN=a\nIssuer: CN=a\n"
 ENCRYPTED = b"Proc-Type: 4,ENCRYPTED\nDEK-Info: AES-128-CBC,00000000000000000000000000000000\n\n"
 OTHER_HEADER = b"Comment: none\n\n"
 MANY = 200
+FILLS, END_TO_END = "one message fills the text", "a bundle is messages end to end"
 
 # data: the data of the messages that the text is meant to hold, in order. Where one is no certificate, it is given in
-# `ours` alone, since the peers' readers of certificates are not asked for it.
-Variation = collections.namedtuple("Variation", "name text data rule ours", defaults=[None])
+# `ours` alone, since the peers' readers of certificates are not asked for it. read_rule: a rule of read's own.
+Variation = collections.namedtuple("Variation", "name text data rule ours read_rule", defaults=[None, None])
 
 
 class Samples:
@@ -30,7 +31,7 @@ class Samples:
         self.no_pads = maker.settled_with_pads(0)
         self.large = maker.settled_large()
         self.key = maker.openssl.call("pkey", "-in", "settled", "-pubout", "-outform", "DER")
-        self.text = material.plain_pem(self.data)
+        self.text, self.second = material.plain_pem(self.data), material.plain_pem(self.no_pads)
         self.lines = material.lines_of(self.data)
 
     def body(self, *lines):
@@ -159,30 +160,37 @@ def boundaries(s):
 
 
 def several(s):
-    second = material.plain_pem(s.no_pads)
-    both, reverse = [s.data, s.no_pads], [s.no_pads, s.data]
-    joined = "read: one message fills the text; index: messages end to end"
-    key = material.plain_pem(s.key, b"PUBLIC KEY")
+    """Two messages, each whole by itself."""
+    first, second, both = s.text, s.second, [s.data, s.no_pads]
+    cr_inside, one_line = first[:-1].replace(b"\n", b"\r") + b"\n", first[:-1].replace(b"\n", b"") + b"\n"
+    two = lambda name, text, rule: Variation("two, " + name, text, both, rule, read_rule=FILLS)
+    key, open_line = material.plain_pem(s.key, b"PUBLIC KEY"), "standard: a line end behind the opening"
     return [
-        Variation("two messages, first with pads", s.text + second, both, joined),
-        Variation("two messages, first without pads", second + s.text, reverse, joined),
-        Variation("two, no line end between", s.text[:-1] + second, both, "strict: line end behind the closing"),
-        Variation("two, a blank line between", s.text + b"\n" + second, both, "lax: white belongs to the earlier"),
-        Variation("two, text between", s.text + SUBJECT + second, both, "explanatory text is not read"),
-        Variation("two, text before the second on its line", s.text + b"x " + second, both,
-                  "explanatory text is not read"),
-        Variation("two, labels differ in the first", s.text.replace(b"END ", b"END X509 ") + second, both,
-                  "labels differ; messages from the left"),
-        Variation("two, * in the second", s.text + second[:MIDDLE] + b"*" + second[MIDDLE:], both,
-                  "body: white and alphabet only"),
-        Variation("two, the first without closing", s.text[:-len(CLOSING)] + second, both,
-                  "a hyphen starts the closing"),
-        Variation("one body, a hyphen, another body", s.body(*s.lines, b"-", *material.lines_of(s.no_pads)), both,
-                  "a hyphen starts the closing"),
-        Variation("the same, first without pads", s.body(*material.lines_of(s.no_pads), b"-", *s.lines), reverse,
-                  "a hyphen starts the closing"),
-        Variation("an opening alone before", OPENING + s.text, [s.data], "a hyphen starts the closing"),
-        Variation("a public key before the certificate", key + s.text, [s.data], joined, [s.key, s.data]),
+        two("first with pads", first + second, END_TO_END),
+        Variation("two, first without pads", second + first, both[::-1], END_TO_END, read_rule=FILLS),
+        two("no line end between", first[:-1] + second, "strict: line end behind the closing"),
+        two("a blank line between", first + b"\n" + second, "lax: white belongs to the earlier"),
+        two("spaces before the second", first + b"  " + second, "lax: white belongs to the earlier"),
+        two("the first with CR alone but for its end", cr_inside + second, "a line end is CRLF, CR or LF"),
+        two("the second with CR alone", first + second.replace(b"\n", b"\r"), "a line end is CRLF, CR or LF"),
+        Variation("two, the first all on one line", one_line + second, both, open_line, None, f"{FILLS}; {open_line}"),
+        two("text between", first + SUBJECT + second, "explanatory text is not read"),
+        two("text before the second on its line", first + b"x " + second, "explanatory text is not read"),
+        two("labels differ in the first", first.replace(b"END ", b"END X509 ") + second, "labels differ"),
+        two("* in the second", first + second[:MIDDLE] + b"*" + second[MIDDLE:], "body: white and alphabet only"),
+        Variation("a public key before the certificate", key + first, [s.data], END_TO_END, [s.key, s.data], FILLS),
+    ]
+
+
+def run_together(s):
+    """Two bodies with a boundary lacking between them, or an opening without a body."""
+    full, both = material.lines_of(s.no_pads), [s.data, s.no_pads]
+    rule = "a hyphen starts the closing"
+    return [
+        Variation("two, the first without closing", s.text[:-len(CLOSING)] + s.second, both, rule),
+        Variation("one body, a hyphen, another body", s.body(*s.lines, b"-", *full), both, rule),
+        Variation("the same, first without pads", s.body(*full, b"-", *s.lines), both[::-1], rule),
+        s.one("an opening alone before", OPENING + s.text, rule),
     ]
 
 
@@ -197,5 +205,5 @@ def limits(s):
 
 def all_of(maker):
     samples = Samples(maker)
-    groups = [line_ends, beside, blanks, widths, pads, other_bytes, boundaries, several, limits]
+    groups = [line_ends, beside, blanks, widths, pads, other_bytes, boundaries, several, run_together, limits]
     return [variation for group in groups for variation in group(samples)]
