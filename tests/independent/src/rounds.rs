@@ -1,0 +1,136 @@
+//! The random rounds: a text for the readers, or a list of labels and data for the writer.
+
+use crate::fixed::UNKNOWN_GRAMMARS;
+use crate::paper::{table, Found, Message, BEGIN, DATA_LIMIT, GRAMMARS, TEXT_LIMIT};
+use crate::random::Random;
+use crate::samples::M;
+use crate::texts;
+use crate::trial::{Rooms, Trial};
+
+/// One round in this many has a text or data around the limit, which takes long.
+const LONG: usize = 500;
+/// One round in this many tries all rooms, if the text is not longer than this.
+const ALL_ROOMS: usize = 16;
+const SMALL_TEXT: usize = 200;
+
+pub fn run(trial: &mut Trial, random: &mut Random, count: u64) {
+    for _ in 0..count {
+        match random.below(4) {
+            0 => written_list(trial, random),
+            _ => text(trial, random),
+        }
+    }
+}
+
+fn text(trial: &mut Trial, random: &mut Random) {
+    let text = random_text(random);
+    if text.len() <= SMALL_TEXT && random.one_in(ALL_ROOMS) {
+        trial.text(&text, &mut Rooms::All);
+    } else {
+        trial.text(&text, &mut Rooms::Two(random));
+    }
+    if random.one_in(ALL_ROOMS) {
+        let number = random.number() as u32;
+        let unknown = if (1..=3).contains(&number) { 0 } else { number };
+        let grammar = if random.one_in(2) {
+            unknown
+        } else {
+            random.pick(&UNKNOWN_GRAMMARS)
+        };
+        trial.text_under(&text, grammar, &mut Rooms::Two(random));
+    }
+}
+
+fn random_text(random: &mut Random) -> Vec<u8> {
+    if random.one_in(LONG) {
+        return long_text(random);
+    }
+    let grammar = random.pick(&GRAMMARS);
+    match random.below(12) {
+        0..=2 => texts::message(grammar, random),
+        3..=5 => texts::damaged(&texts::message(grammar, random), random),
+        6 | 7 => texts::soup(random),
+        8 | 9 => texts::bundle(random),
+        10 => texts::damaged(&texts::bundle(random), random),
+        _ => random_bytes(random),
+    }
+}
+
+/// A text near the limit: a long message or many messages, sometimes damaged.
+fn long_text(random: &mut Random) -> Vec<u8> {
+    let length = random.between(TEXT_LIMIT - 3, TEXT_LIMIT + 2);
+    let unit = match random.below(3) {
+        0 => texts::long_message(&texts::label(random), length),
+        1 => M.to_vec(),
+        _ => texts::message(random.pick(&GRAMMARS), random),
+    };
+    let text = unit.repeat(length / unit.len());
+    let text = if random.one_in(2) {
+        texts::damaged(&text, random)
+    } else {
+        text
+    };
+    if text.len() > length || random.one_in(2) {
+        return text;
+    }
+    texts::stretched(&text, length)
+}
+
+fn random_bytes(random: &mut Random) -> Vec<u8> {
+    let length = random.below(80);
+    let bytes = random.bytes(length);
+    match random.below(2) {
+        0 => bytes,
+        _ => [b"-----BEGIN A-----".as_slice(), &bytes].concat(),
+    }
+}
+
+/// Writes each item of a list; if the writer takes all of them, their texts joined are a bundle with that list.
+fn written_list(trial: &mut Trial, random: &mut Random) {
+    let count = random.below(4);
+    let mut joined = Vec::new();
+    let mut messages = Vec::new();
+    let mut all_taken = true;
+    for _ in 0..count {
+        let (label, data) = item(random);
+        match trial.write(&label, &data, &mut Rooms::Two(random)) {
+            Some(text) => add_message(&label, data, &text, &mut joined, &mut messages),
+            None => all_taken = false,
+        }
+    }
+    if all_taken && joined.len() <= TEXT_LIMIT {
+        let list = Ok(Found::unlabelled(table(&messages)));
+        GRAMMARS
+            .iter()
+            .for_each(|&grammar| trial.index(&joined, grammar, 1 + 5 * messages.len(), &list));
+    }
+}
+
+fn add_message(label: &[u8], data: Vec<u8>, text: &[u8], joined: &mut Vec<u8>, messages: &mut Vec<Message>) {
+    let start = joined.len();
+    joined.extend_from_slice(text);
+    messages.push(Message {
+        start,
+        length: text.len(),
+        label: (start + BEGIN.len(), label.len()),
+        data,
+    });
+}
+
+/// A label or nearly one, and data, mostly of some lines.
+fn item(random: &mut Random) -> (Vec<u8>, Vec<u8>) {
+    let length = match random.below(10) {
+        0 => 0,
+        1..=4 => random.between(1, 10),
+        5 | 6 => random.between(46, 50),
+        _ => random.between(1, 300),
+    };
+    let long = random.one_in(LONG);
+    let length = if long {
+        random.between(DATA_LIMIT - 2, DATA_LIMIT + 1)
+    } else {
+        length
+    };
+    let label = texts::near_label(random);
+    (label, random.bytes(length))
+}

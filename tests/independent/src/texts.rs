@@ -1,0 +1,330 @@
+//! Makers of random inputs: valid texts of each grammar, odd ones, damaged ones, and soups.
+
+use crate::bits;
+use crate::paper::{BEGIN, END, GRAMMARS, HYPHENS, LABEL_LIMIT, LAX, LINE, STANDARD};
+use crate::random::Random;
+
+const LABELS: [&[u8]; 8] = [
+    b"A",
+    b"CERTIFICATE",
+    b"X509 CRL",
+    b"EC PRIVATE KEY",
+    b"A-B",
+    b"pkcs7",
+    b"a-b c-D",
+    b"!-~",
+];
+/// Bytes that mean something somewhere, or stand just beside one that does.
+const TELLING: &[u8] = b"-- \t\n\r\x0b\x0c==AZaz09+/@[`{.:,!~BbEe\x00\x08\x0e\x1f\x7f\x80\xff";
+const LINE_ENDS: [&[u8]; 3] = [b"\n", b"\r", b"\r\n"];
+const WHITE: [&[u8]; 7] = [b" ", b"\t", b"\n", b"\r", b"\r\n", b"\x0b", b"\x0c"];
+const PIECES: [&[u8]; 34] = [
+    b"-----BEGIN ",
+    b"-----END ",
+    b"-----",
+    b"-----BEGIN A-----",
+    b"-----END A-----",
+    b"-----BEGIN -----",
+    b"-----END -----",
+    b"-----END A-----\n",
+    b"BEGIN ",
+    b"END",
+    b"begin",
+    b"-",
+    b"--",
+    b"----",
+    b"A",
+    b"A-B",
+    b"X Y",
+    b"=",
+    b"==",
+    b"===",
+    b"= =",
+    b"\n",
+    b"\r",
+    b"\r\n",
+    b"\n\n",
+    b" ",
+    b"\t",
+    b"\x0b",
+    b"\x0c",
+    b"Zg",
+    b"Zg==",
+    b"Zm9v",
+    b"/+8=",
+    b"AAAAAAAAAAAAAAAAAAAAAAAAAAAAAAAAAAAAAAAAAAAAAAAAAAAAAAAAAAAAAAAA",
+];
+
+/// The line ends of one message: all of one kind, or mixed.
+struct LineEnds(usize);
+
+impl LineEnds {
+    fn new(r: &mut Random) -> LineEnds {
+        LineEnds(r.below(LINE_ENDS.len() + 1))
+    }
+
+    fn next(&self, r: &mut Random) -> &'static [u8] {
+        match LINE_ENDS.get(self.0) {
+            Some(line_end) => line_end,
+            None => r.pick(&LINE_ENDS),
+        }
+    }
+}
+
+/// What a message is made of.
+pub struct Content {
+    opening_label: Vec<u8>,
+    closing_label: Vec<u8>,
+    characters: Vec<u8>,
+    pads: usize,
+}
+
+/// A valid label, now and then one near the limit or over it.
+pub fn label(r: &mut Random) -> Vec<u8> {
+    match r.below(12) {
+        0 => Vec::new(),
+        1 => label_of(r.between(LABEL_LIMIT - 1, LABEL_LIMIT + 1), r),
+        2..=7 => r.pick(&LABELS).to_vec(),
+        _ => label_of(r.between(1, 20), r),
+    }
+}
+
+/// A valid label of this length.
+pub fn label_of(length: usize, r: &mut Random) -> Vec<u8> {
+    let mut label: Vec<u8> = Vec::with_capacity(length);
+    for place in 0..length {
+        let may_separate = place > 0 && place + 1 < length && !b"- ".contains(&label[place - 1]);
+        let byte = if may_separate && r.one_in(4) {
+            r.pick(b"- ")
+        } else {
+            label_character(r)
+        };
+        label.push(byte);
+    }
+    label
+}
+
+fn label_character(r: &mut Random) -> u8 {
+    let byte = r.between(33, 126) as u8;
+    if byte == b'-' {
+        b'X'
+    } else {
+        byte
+    }
+}
+
+/// A label or what is nearly one.
+pub fn near_label(r: &mut Random) -> Vec<u8> {
+    let label = label(r);
+    if r.one_in(3) {
+        damaged(&label, r)
+    } else {
+        label
+    }
+}
+
+/// How many characters: mostly few, often around a line, now and then some lines.
+fn character_count(r: &mut Random) -> usize {
+    match r.below(8) {
+        0 => 0,
+        1..=4 => r.between(1, 12),
+        5 | 6 => r.between(LINE - 4, LINE + 4),
+        _ => r.between(1, 4 * LINE),
+    }
+}
+
+/// Content that mostly fits; sometimes counts, spare bits or labels are wrong.
+pub fn content(r: &mut Random) -> Content {
+    let mut count = character_count(r);
+    count += usize::from(count % 4 == 1);
+    let mut pads = (4 - count % 4) % 4;
+    if r.one_in(12) {
+        count += r.below(3);
+        pads = r.below(3);
+    }
+    let mut characters: Vec<u8> = (0..count).map(|_| bits::character(r.below(64) as u8)).collect();
+    if let (Some(last), false) = (characters.last_mut(), r.one_in(8)) {
+        let zeros = 1 << (2 * pads);
+        *last = bits::character((r.below(64 / zeros) * zeros) as u8);
+    }
+    let opening_label = label(r);
+    let closing_label = closing_label(&opening_label, r);
+    Content {
+        opening_label,
+        closing_label,
+        characters,
+        pads,
+    }
+}
+
+fn closing_label(opening: &[u8], r: &mut Random) -> Vec<u8> {
+    match r.below(30) {
+        0 => label(r),
+        1 => opening.to_ascii_lowercase(),
+        2 => [opening, b"A"].concat(),
+        _ => opening.to_vec(),
+    }
+}
+
+/// A message that the grammar takes, if its content fits.
+pub fn message(grammar: u32, r: &mut Random) -> Vec<u8> {
+    let content = content(r);
+    match grammar {
+        LAX => lax(&content, r),
+        STANDARD => standard(&content, r),
+        _ => strict(&content, r),
+    }
+}
+
+fn strict(content: &Content, r: &mut Random) -> Vec<u8> {
+    let ends = LineEnds::new(r);
+    let mut body = content.characters.clone();
+    body.resize(body.len() + content.pads, bits::PAD);
+    let mut text = [BEGIN, &content.opening_label, HYPHENS, ends.next(r)].concat();
+    for line in body.chunks(LINE) {
+        text.extend_from_slice(line);
+        text.extend_from_slice(ends.next(r));
+    }
+    text.extend([END, &content.closing_label, HYPHENS, ends.next(r)].concat());
+    text
+}
+
+fn standard(content: &Content, r: &mut Random) -> Vec<u8> {
+    let ends = LineEnds::new(r);
+    let mut text = [BEGIN, &content.opening_label, HYPHENS, &blanks(r), ends.next(r)].concat();
+    if r.one_in(4) {
+        text.extend([&blanks(r), ends.next(r), &blanks(r)].concat());
+    }
+    for line in standard_lines(content, r) {
+        text.extend([&line, blanks(r).as_slice(), ends.next(r)].concat());
+    }
+    text.extend([END, &content.closing_label, HYPHENS, &blanks(r)].concat());
+    if !r.one_in(4) {
+        text.extend_from_slice(ends.next(r));
+    }
+    text
+}
+
+/// The body in lines of any length, with the pads on the last one or on one of their own.
+fn standard_lines(content: &Content, r: &mut Random) -> Vec<Vec<u8>> {
+    let width = r.pick(&[1, 4, 5, 60, LINE, LINE, LINE, 65, 76, 200]);
+    let mut lines: Vec<Vec<u8>> = content.characters.chunks(width).map(<[u8]>::to_vec).collect();
+    if lines.is_empty() || r.one_in(6) {
+        lines.push(Vec::new());
+    }
+    let pads = vec![bits::PAD; content.pads];
+    lines.last_mut().expect("a final line").extend(pads);
+    lines
+}
+
+fn lax(content: &Content, r: &mut Random) -> Vec<u8> {
+    let sparse = r.pick(&[2, 10, LINE, 1000]);
+    let mut body = content.characters.clone();
+    body.resize(body.len() + content.pads, bits::PAD);
+    let mut text = [&white(r), BEGIN, &content.opening_label, HYPHENS, &white(r)].concat();
+    for byte in body {
+        text.push(byte);
+        if r.one_in(sparse) {
+            text.extend(white(r));
+        }
+    }
+    text.extend([&white(r), END, &content.closing_label, HYPHENS, &white(r)].concat());
+    text
+}
+
+fn blanks(r: &mut Random) -> Vec<u8> {
+    let count = if r.one_in(5) { r.between(1, 3) } else { 0 };
+    (0..count).map(|_| r.pick(b" \t")).collect()
+}
+
+fn white(r: &mut Random) -> Vec<u8> {
+    let count = if r.one_in(2) { r.between(1, 3) } else { 0 };
+    (0..count).flat_map(|_| r.pick(&WHITE)).copied().collect()
+}
+
+/// A text after one to three edits.
+pub fn damaged(text: &[u8], r: &mut Random) -> Vec<u8> {
+    let edits = r.between(1, 3);
+    (0..edits).fold(text.to_vec(), |text, _| edited(&text, r))
+}
+
+fn edited(text: &[u8], r: &mut Random) -> Vec<u8> {
+    let at = r.below(text.len() + 1);
+    let (before, after) = text.split_at(at);
+    let rest = after.get(1..).unwrap_or_default();
+    match r.below(7) {
+        0 | 1 => [before, &[telling(r)], rest].concat(),
+        2 => [before, &[telling(r)], after].concat(),
+        3 => [before, rest].concat(),
+        4 => before.to_vec(),
+        5 => swapped(text, at, r),
+        _ => duplicated(text, at, r),
+    }
+}
+
+fn telling(r: &mut Random) -> u8 {
+    if r.one_in(4) {
+        r.byte()
+    } else {
+        r.pick(TELLING)
+    }
+}
+
+/// Two neighbouring parts in the other order.
+fn swapped(text: &[u8], at: usize, r: &mut Random) -> Vec<u8> {
+    let (before, after) = text.split_at(at);
+    let (first, rest) = after.split_at(r.below(after.len().min(12) + 1));
+    let (second, rest) = rest.split_at(r.below(rest.len().min(12) + 1));
+    [before, second, first, rest].concat()
+}
+
+fn duplicated(text: &[u8], at: usize, r: &mut Random) -> Vec<u8> {
+    let (before, after) = text.split_at(at);
+    let part = &after[..r.below(after.len().min(40) + 1)];
+    [before, part, after].concat()
+}
+
+/// Pieces in any order, often behind an opening or between two boundaries, which they would seldom make by themselves.
+pub fn soup(r: &mut Random) -> Vec<u8> {
+    let count = r.between(0, 12);
+    let pieces: Vec<u8> = (0..count).flat_map(|_| r.pick(&PIECES)).copied().collect();
+    match r.below(4) {
+        0 => pieces,
+        1 => [b"-----BEGIN A-----", pieces.as_slice()].concat(),
+        2 => [b"-----BEGIN A-----\n", pieces.as_slice(), b"\n-----END A-----\n"].concat(),
+        _ => [b"-----BEGIN A-----\nZg==\n-----END A-----", pieces.as_slice()].concat(),
+    }
+}
+
+/// No message to six, of one grammar or mixed.
+pub fn bundle(r: &mut Random) -> Vec<u8> {
+    let of_one = r.pick(&GRAMMARS);
+    let mixed = r.one_in(4);
+    let count = r.below(7);
+    let grammars = (0..count)
+        .map(|_| if mixed { r.pick(&GRAMMARS) } else { of_one })
+        .collect::<Vec<u32>>();
+    grammars.into_iter().flat_map(|grammar| message(grammar, r)).collect()
+}
+
+/// A strict LF message of as many full lines as the length has room for.
+pub fn long_message(label: &[u8], length: usize) -> Vec<u8> {
+    let ends = [BEGIN, label, HYPHENS, b"\n", END, label, HYPHENS, b"\n"];
+    let line = [b"Q".repeat(LINE).as_slice(), b"\n"].concat();
+    let lines = (length - ends.concat().len()) / line.len();
+    [&ends[..4].concat(), line.repeat(lines).as_slice(), &ends[4..].concat()].concat()
+}
+
+/// The same text made longer, up to this length, by the line ends: the first of them become CRLF.
+pub fn stretched(text: &[u8], length: usize) -> Vec<u8> {
+    let mut more = length - text.len();
+    let mut result = Vec::with_capacity(length);
+    for &byte in text {
+        if byte == b'\n' && more > 0 {
+            result.push(b'\r');
+            more -= 1;
+        }
+        result.push(byte);
+    }
+    result
+}

@@ -1,0 +1,275 @@
+//! Runs the library's calls, each on outputs that hold old values, and compares all that they answer with the paper.
+
+use crate::lent::{Cell, Lent, LentReport};
+use crate::paper::{answer, label_part, Answer, Found, Judgement, Paper, BEGIN, DATA_LIMIT, GRAMMARS, STRICT};
+use crate::random::Random;
+use crate::tally::{Call, Tally};
+use zullifern::raw::{self, Report};
+
+/// A room that no result is too near to.
+const LARGE: usize = 200;
+/// Rooms from 0 up to the size and this many more are all of them.
+const BEYOND: usize = 2;
+/// No message is shorter.
+const SHORTEST_MESSAGE: usize = 30;
+
+/// Which rooms a call is tried with.
+pub enum Rooms<'a> {
+    /// None, all up to the size, and some more.
+    All,
+    /// Those around the ends.
+    Edges,
+    /// One with the size or more, and any one around the ends.
+    Two(&'a mut Random),
+}
+
+impl Rooms<'_> {
+    fn around(&mut self, size: usize) -> Vec<usize> {
+        let edges = [0, 1, size.saturating_sub(1), size, size + 1, size + LARGE];
+        match self {
+            Rooms::All => (0..=size + BEYOND).collect(),
+            Rooms::Edges => edges.to_vec(),
+            Rooms::Two(random) => vec![random.pick(&edges[3..]), random.pick(&edges)],
+        }
+    }
+
+    /// Rooms around the size of the result, or of what a careless call might leave where there is none.
+    fn of<T>(&mut self, judgement: &Judgement<T>, size_if_refused: usize) -> Vec<usize> {
+        self.around(judgement.as_ref().map_or(size_if_refused, |found| found.result.len()))
+    }
+}
+
+/// What was put into a call, for the message on a disagreement.
+struct Input<'a> {
+    call: Call,
+    grammar: u32,
+    text: &'a [u8],
+    data: Option<&'a [u8]>,
+}
+
+impl<'a> Input<'a> {
+    fn text(call: Call, text: &'a [u8], grammar: u32) -> Input<'a> {
+        let data = None;
+        Input {
+            call,
+            grammar,
+            text,
+            data,
+        }
+    }
+}
+
+/// What the paper says of a text under one grammar.
+pub struct Judged {
+    message: Judgement<u8>,
+    bundle: Judgement<u32>,
+}
+
+impl Judged {
+    /// Whether all that is accepted here is accepted there with the same answers.
+    fn is_within(&self, wider: &Judged) -> bool {
+        let message = self.message.is_err() || self.message == wider.message;
+        let bundle = self.bundle.is_err() || self.bundle == wider.bundle;
+        message && bundle
+    }
+}
+
+pub struct Trial {
+    paper: Paper,
+    pub tally: Tally,
+    cases: u64,
+}
+
+impl Trial {
+    pub fn new() -> Trial {
+        Trial {
+            paper: Paper::new(),
+            tally: Tally::default(),
+            cases: 0,
+        }
+    }
+
+    /// All calls on a text, under the three grammars.
+    pub fn text(&mut self, text: &[u8], rooms: &mut Rooms) {
+        let judged = GRAMMARS.map(|grammar| self.text_under(text, grammar, rooms));
+        // The third demand: what a narrower grammar accepts, the wider one accepts with the same answers.
+        if !judged[2].is_within(&judged[1]) || !judged[1].is_within(&judged[0]) {
+            fail(&format!(
+                "a wider grammar answers otherwise\ntext: \"{}\"",
+                text.escape_ascii()
+            ));
+        }
+    }
+
+    /// All calls on a text under one grammar, of any number.
+    pub fn text_under(&mut self, text: &[u8], grammar: u32, rooms: &mut Rooms) -> Judged {
+        let message = self.paper.judge_read(text, grammar);
+        let lent = rooms.of(&message, text.len() * 3 / 4);
+        lent.iter().for_each(|&room| self.read(text, grammar, room, &message));
+        self.label(text, grammar, &message);
+        self.restore(text, grammar, &message);
+        let bundle = self.paper.judge_index(text, grammar);
+        let lent = rooms.of(&bundle, 1 + text.len() / SHORTEST_MESSAGE * 5);
+        lent.iter().for_each(|&room| self.index(text, grammar, room, &bundle));
+        Judged { message, bundle }
+    }
+
+    /// Writing what was read restores an accepted strict LF text whose data is within the limit.
+    fn restore(&mut self, text: &[u8], grammar: u32, message: &Judgement<u8>) {
+        let Ok(found) = message else { return };
+        let (data, (offset, length)) = (&found.result, found.label);
+        if grammar == STRICT && !text.contains(&b'\r') && data.len() <= DATA_LIMIT {
+            let restored = Ok(Found::unlabelled(text.to_vec()));
+            self.write_once(&text[offset..offset + length], data, text.len(), &restored);
+        }
+    }
+
+    /// Writes with the rooms given, reads back what was written, and hands that over if there is any.
+    pub fn write(&mut self, label: &[u8], data: &[u8], rooms: &mut Rooms) -> Option<Vec<u8>> {
+        let judgement = self.paper.judge_write(label, data);
+        for room in rooms.of(&judgement, label.len() + data.len()) {
+            self.write_once(label, data, room, &judgement);
+        }
+        let text = judgement.ok()?.result;
+        self.read_back(label, data, &text);
+        Some(text)
+    }
+
+    /// Under all grammars a written text has the label and the data.
+    fn read_back(&mut self, label: &[u8], data: &[u8], text: &[u8]) {
+        let back = Ok(Found {
+            result: data.to_vec(),
+            label: (BEGIN.len(), label.len()),
+        });
+        for grammar in GRAMMARS {
+            self.read(text, grammar, data.len(), &back);
+            self.label(text, grammar, &back);
+        }
+    }
+
+    pub fn read(&mut self, text: &[u8], grammar: u32, room: usize, judgement: &Judgement<u8>) {
+        let input = Input::text(Call::Read, text, grammar);
+        let expected = answer(judgement, room);
+        self.compare(&input, &expected, |lent, report| raw::read(text, grammar, lent, report));
+    }
+
+    pub fn index(&mut self, text: &[u8], grammar: u32, room: usize, judgement: &Judgement<u32>) {
+        let input = Input::text(Call::Index, text, grammar);
+        let expected = answer(judgement, room);
+        self.compare(&input, &expected, |lent, report| {
+            raw::index(text, grammar, lent, report)
+        });
+    }
+
+    fn write_once(&mut self, label: &[u8], data: &[u8], room: usize, judgement: &Judgement<u8>) {
+        let input = Input {
+            call: Call::Write,
+            grammar: 0,
+            text: label,
+            data: Some(data),
+        };
+        let expected = answer(judgement, room);
+        self.compare(&input, &expected, |lent, report| raw::write(label, data, lent, report));
+    }
+
+    /// The label call has no number: 0 stands in its report, and nothing else but the part.
+    fn label(&mut self, text: &[u8], grammar: u32, judgement: &Judgement<u8>) {
+        let input = Input::text(Call::Label, text, grammar);
+        let expected = Answer {
+            number: 0,
+            place: 0,
+            size: 0,
+            label: label_part(judgement),
+            lent: Vec::<u8>::new(),
+        };
+        let refused_by = judgement.as_ref().map_or_else(|refusal| refusal.number, |_| 0);
+        self.compare_as(&input, refused_by, &expected, |_, report| {
+            raw::label(text, grammar, report)
+        });
+    }
+
+    fn compare<T: Cell>(
+        &mut self,
+        input: &Input,
+        expected: &Answer<T>,
+        call: impl FnOnce(&mut [T], &mut Report) -> u32,
+    ) {
+        self.compare_as(input, expected.number, expected, call);
+    }
+
+    /// One case: runs the call, compares, and counts it under the number given.
+    fn compare_as<T: Cell>(
+        &mut self,
+        input: &Input,
+        counted: u32,
+        expected: &Answer<T>,
+        call: impl FnOnce(&mut [T], &mut Report) -> u32,
+    ) {
+        self.cases += 1;
+        let mut lent = Lent::new(expected.lent.len(), self.cases);
+        let mut report = LentReport::new();
+        let returned = call(lent.part_mut(), report.part_mut());
+        if let Some(difference) = difference(expected, returned, &report, &lent) {
+            fail(&describe(input, expected.lent.len(), &difference));
+        }
+        self.tally.count(input.call, input.grammar, counted);
+    }
+}
+
+fn expected_report<T>(expected: &Answer<T>) -> Report {
+    Report {
+        number: u64::from(expected.number),
+        place: expected.place as u64,
+        size: expected.size as u64,
+        label_offset: expected.label.0 as u64,
+        label_length: expected.label.1 as u64,
+        reserved: [0; 3],
+    }
+}
+
+/// In which way the call answered otherwise than expected, if it did.
+fn difference<T: Cell>(expected: &Answer<T>, returned: u32, report: &LentReport, lent: &Lent<T>) -> Option<String> {
+    let wanted = expected_report(expected);
+    if returned != expected.number {
+        return Some(format!(
+            "expected number: {}\ngot number: {returned}, {:?}",
+            expected.number,
+            report.part()
+        ));
+    }
+    if *report.part() != wanted {
+        return Some(format!("expected: {wanted:?}\ngot: {:?}", report.part()));
+    }
+    if !lent.guards_untouched() || !report.guards_untouched() {
+        return Some("bytes beside what was lent were changed".to_string());
+    }
+    let place = lent
+        .part()
+        .iter()
+        .zip(&expected.lent)
+        .position(|(got, wanted)| got != wanted)?;
+    let (wanted, got) = (expected.lent[place], lent.part()[place]);
+    Some(format!(
+        "expected in the lent part at {place}: {wanted:?}\ngot: {got:?}\nreport: {:?}",
+        report.part()
+    ))
+}
+
+fn describe(input: &Input, room: usize, difference: &str) -> String {
+    let name = if input.data.is_some() { "label" } else { "text" };
+    let text = format!("{name}: \"{}\"", input.text.escape_ascii());
+    let data = input
+        .data
+        .map_or(String::new(), |data| format!("\ndata: \"{}\"", data.escape_ascii()));
+    let call = format!("{:?}", input.call).to_lowercase();
+    format!(
+        "{call} disagrees with the paper\n{text}{data}\ngrammar: {}\nroom: {room}\n{difference}",
+        input.grammar
+    )
+}
+
+/// Ends the run on the first disagreement.
+pub fn fail(message: &str) -> ! {
+    eprintln!("{message}");
+    std::process::exit(1)
+}
