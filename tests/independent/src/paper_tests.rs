@@ -156,6 +156,7 @@ fn the_owner_of_white() {
 #[test]
 fn too_little_room() {
     let mut paper = Paper::new();
+    assert_eq!(answer(&paper.judge_read(M, STRICT), 1).lent, b"f");
     let small = Answer {
         number: 10,
         place: 0,
@@ -247,4 +248,40 @@ fn the_writers_order_of_checks() {
     assert_eq!(number_of_write(b"-", &[0; 32_769]), 12);
     let refusal = Paper::new().judge_write(b"A", b"").unwrap_err();
     assert_eq!(refusal, Refusal { number: 13, place: 0 });
+}
+
+#[test]
+fn the_readers_order_of_checks() {
+    let labels = |opening: &[u8], closing: &[u8], body: &[u8]| {
+        [
+            b"-----BEGIN ",
+            opening,
+            b"-----\n",
+            body,
+            b"\n-----END ",
+            closing,
+            b"-----\n",
+        ]
+        .concat()
+    };
+    for grammar in GRAMMARS {
+        assert_eq!(read(&labels(&[b'L'; 65], b"A", b"Zg=="), grammar), refused(6, 11));
+        assert_eq!(read(&labels(b"A", &[b'L'; 65], b"Zh=="), grammar), refused(7, 32));
+        // The closing is whole with its fifth hyphen; a sixth has no place, though the label is too long as well.
+        assert_eq!(read(&labels(&[b'L'; 65], b"A-", b"Zg=="), grammar), refused(5, 102));
+    }
+    assert_eq!(read(&labels(b"A", b"", b"Zg="), LAX), refused(7, 31));
+    assert_eq!(read(&labels(b"A", b"A", b"Zg==="), LAX), refused(4, 22));
+}
+
+#[test]
+fn white_and_blanks_of_each_grammar() {
+    for byte in 0..=u8::MAX {
+        let text = m_with(&[&[byte], b"\nZg==\n".as_slice()].concat());
+        let blank = b"\t ".contains(&byte);
+        let line_end = b"\r\n".contains(&byte);
+        let accepted = GRAMMARS.map(|grammar| read(&text, grammar).number == 0);
+        let white = blank || line_end || b"\x0b\x0c".contains(&byte);
+        assert_eq!(accepted, [white, blank || line_end, byte == b'\r'], "byte {byte}");
+    }
 }
