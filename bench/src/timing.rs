@@ -1,0 +1,84 @@
+//! Times two sides in turn and gives medians and quartiles.
+
+use std::time::{Duration, Instant};
+
+pub const ROUNDS: usize = 201;
+/// A round of one side takes about this long, or is one call that takes longer. Against this the clock's own time is
+/// small.
+pub const ROUND: Duration = Duration::from_micros(200);
+/// How long each side runs before it is timed.
+const WARM_UP: Duration = Duration::from_millis(20);
+
+/// The lower quartile, the median and the upper quartile.
+pub struct Spread {
+    pub low: f64,
+    pub median: f64,
+    pub high: f64,
+}
+
+impl Spread {
+    fn of(mut values: Vec<f64>) -> Spread {
+        values.sort_by(f64::total_cmp);
+        let at = |quarters: usize| values[(values.len() - 1) * quarters / 4];
+        Spread {
+            low: at(1),
+            median: at(2),
+            high: at(3),
+        }
+    }
+}
+
+pub struct Comparison {
+    /// Nanoseconds for one call.
+    pub library: Spread,
+    pub ordinary: Spread,
+    /// The ordinary side's time over the library's in the same round, in per cent.
+    pub share: Spread,
+}
+
+/// Times both sides on the same lent buffer. The side that goes first changes with each round.
+pub fn compare<T>(lent: &mut [T], library: impl Fn(&mut [T]), ordinary: impl Fn(&mut [T])) -> Comparison {
+    let library_calls = warm_up(lent, &library);
+    let ordinary_calls = warm_up(lent, &ordinary);
+    let mut times = (Vec::new(), Vec::new());
+    for number in 0..ROUNDS {
+        if number % 2 == 0 {
+            times.0.push(round(lent, &library, library_calls));
+            times.1.push(round(lent, &ordinary, ordinary_calls));
+        } else {
+            times.1.push(round(lent, &ordinary, ordinary_calls));
+            times.0.push(round(lent, &library, library_calls));
+        }
+    }
+    let share = times
+        .0
+        .iter()
+        .zip(&times.1)
+        .map(|(library, ordinary)| 100.0 * ordinary / library);
+    let share = Spread::of(share.collect());
+    Comparison {
+        library: Spread::of(times.0),
+        ordinary: Spread::of(times.1),
+        share,
+    }
+}
+
+/// Nanoseconds for one call, over so many calls.
+fn round<T>(lent: &mut [T], side: &impl Fn(&mut [T]), calls: u32) -> f64 {
+    let start = Instant::now();
+    for _ in 0..calls {
+        side(lent);
+    }
+    start.elapsed().as_nanos() as f64 / f64::from(calls)
+}
+
+/// Warms a side up, and answers how many calls a round of it needs.
+fn warm_up<T>(lent: &mut [T], side: &impl Fn(&mut [T])) -> u32 {
+    let start = Instant::now();
+    let mut fastest = f64::INFINITY;
+    while start.elapsed() < WARM_UP {
+        fastest = fastest.min(round(lent, side, 1));
+    }
+    // The clock cannot tell less than a nanosecond.
+    (ROUND.as_nanos() as f64 / fastest.max(1.0)).ceil() as u32
+}
