@@ -46,7 +46,7 @@ fn print_head() {
     println!(
         "rounds    {rounds} of each side, in turn, after a warm-up. A round is calls for about {round} microseconds,"
     );
-    println!("          or one call that takes longer.");
+    println!("          or for as long as one call of the slower side, and as long on both sides.");
     println!();
     println!("{:35}{:^39}{:^35}", "", "library", "ordinary");
     print!("{:18} {:>6}  {:5}  ", "case", "text", "lent");

@@ -3,8 +3,7 @@
 use std::time::{Duration, Instant};
 
 pub const ROUNDS: usize = 201;
-/// A round of one side takes about this long, or is one call that takes longer. Against this the clock's own time is
-/// small.
+/// A round takes about this long, or as long as a call of the slower side. Against this the clock's own time is small.
 pub const ROUND: Duration = Duration::from_micros(200);
 /// How long each side runs before it is timed.
 const WARM_UP: Duration = Duration::from_millis(20);
@@ -38,8 +37,12 @@ pub struct Comparison {
 
 /// Times both sides on the same lent buffer. The side that goes first changes with each round.
 pub fn compare<T>(lent: &mut [T], library: impl Fn(&mut [T]), ordinary: impl Fn(&mut [T])) -> Comparison {
-    let library_calls = warm_up(lent, &library);
-    let ordinary_calls = warm_up(lent, &ordinary);
+    let library_call = warm_up(lent, &library);
+    let ordinary_call = warm_up(lent, &ordinary);
+    // Rounds of one length on both sides: other work of the machine would interrupt the longer ones more often.
+    let length = (ROUND.as_nanos() as f64).max(library_call).max(ordinary_call);
+    let library_calls = (length / library_call).ceil() as u32;
+    let ordinary_calls = (length / ordinary_call).ceil() as u32;
     let mut times = (Vec::new(), Vec::new());
     for number in 0..ROUNDS {
         if number % 2 == 0 {
@@ -72,13 +75,13 @@ fn round<T>(lent: &mut [T], side: &impl Fn(&mut [T]), calls: u32) -> f64 {
     start.elapsed().as_nanos() as f64 / f64::from(calls)
 }
 
-/// Warms a side up, and answers how many calls a round of it needs.
-fn warm_up<T>(lent: &mut [T], side: &impl Fn(&mut [T])) -> u32 {
+/// Warms a side up, and answers the nanoseconds of its fastest call.
+fn warm_up<T>(lent: &mut [T], side: &impl Fn(&mut [T])) -> f64 {
     let start = Instant::now();
     let mut fastest = f64::INFINITY;
     while start.elapsed() < WARM_UP {
         fastest = fastest.min(round(lent, side, 1));
     }
     // The clock cannot tell less than a nanosecond.
-    (ROUND.as_nanos() as f64 / fastest.max(1.0)).ceil() as u32
+    fastest.max(1.0)
 }
