@@ -1,0 +1,322 @@
+//! Every answer of the four calls, as the package gives it, and the text that a person reads.
+
+use zullifern::{Grammar, Place, Refusal, WriteRefusal};
+
+const M: &str = "-----BEGIN A-----\nZg==\n-----END A-----\n";
+
+fn read_refusal(text: &str, grammar: Grammar) -> Refusal {
+    let mut out = [0xAA; 8];
+    let refusal = zullifern::read(text.as_bytes(), grammar, &mut out).unwrap_err();
+    assert_eq!(out, [0; 8], "nothing is left in the output after {refusal}");
+    refusal
+}
+
+fn index_refusal(text: &str, grammar: Grammar) -> Refusal {
+    let mut table = [0xAAAAAAAA; 8];
+    let refusal = zullifern::index(text.as_bytes(), grammar, &mut table).unwrap_err();
+    assert_eq!(table, [0; 8], "nothing is left in the table after {refusal}");
+    refusal
+}
+
+fn write_refusal(label: &str, data: &[u8]) -> WriteRefusal {
+    let mut out = [0xAA; 8];
+    let refusal = zullifern::write(label, data, &mut out).unwrap_err();
+    assert_eq!(out, [0; 8], "nothing is left in the output after {refusal}");
+    refusal
+}
+
+fn place(offset: usize, line: usize, column: usize, at_end: bool) -> Place {
+    Place {
+        offset,
+        line,
+        column,
+        at_end,
+    }
+}
+
+#[test]
+fn each_refusal_of_read_has_its_number_place_and_text() {
+    let long = "A".repeat(65);
+    let rows: &[(String, Grammar, Refusal, &str)] = &[
+        (
+            "-".repeat(65_537),
+            Grammar::Lax,
+            Refusal::TextTooLong { length: 65_537 },
+            "the text has 65537 bytes; at most 65536 are read",
+        ),
+        (
+            M.replace("BEGIN", "begin"),
+            Grammar::Lax,
+            Refusal::Opening {
+                place: place(5, 1, 6, false),
+            },
+            "the text goes wrong in the opening boundary, at line 1, column 6 (offset 5)",
+        ),
+        (
+            String::new(),
+            Grammar::Strict,
+            Refusal::Opening {
+                place: place(0, 1, 1, true),
+            },
+            "the text ends too early in the opening boundary, at line 1, column 1 (offset 0)",
+        ),
+        (
+            M.replace("Zg==", "Zm 9v"),
+            Grammar::Standard,
+            Refusal::Body {
+                place: place(21, 2, 4, false),
+            },
+            "the text goes wrong between the boundaries, at line 2, column 4 (offset 21)",
+        ),
+        (
+            M.replace("-----\nZg", "------\nZg"),
+            Grammar::Lax,
+            Refusal::Closing {
+                place: place(18, 1, 19, false),
+            },
+            "the text goes wrong in the closing boundary or behind it, at line 1, column 19 (offset 18)",
+        ),
+        (
+            M[..38].to_string(),
+            Grammar::Strict,
+            Refusal::Closing {
+                place: place(38, 3, 16, true),
+            },
+            "the text ends too early in the closing boundary or behind it, at line 3, column 16 (offset 38)",
+        ),
+        (
+            M.replace('A', &long),
+            Grammar::Lax,
+            Refusal::LabelTooLong {
+                place: place(11, 1, 12, false),
+            },
+            "the label at line 1, column 12 (offset 11) is longer than 64 bytes",
+        ),
+        (
+            M.replace("END A", "END B"),
+            Grammar::Lax,
+            Refusal::LabelsDiffer {
+                place: place(32, 3, 10, false),
+            },
+            "the closing label at line 3, column 10 (offset 32) differs from the opening label",
+        ),
+        (
+            M.replace("Zg==", "Zg="),
+            Grammar::Lax,
+            Refusal::CountsDoNotFit {
+                place: place(22, 3, 1, false),
+            },
+            "the base64 characters and pads before line 3, column 1 (offset 22) are no whole number of bytes",
+        ),
+        (
+            M.replace("Zg==", "Zh=="),
+            Grammar::Strict,
+            Refusal::SpareBits {
+                place: place(19, 2, 2, false),
+            },
+            "the last base64 character, at line 2, column 2 (offset 19), has spare bits that are not zero",
+        ),
+        (
+            M.replace("Zg==", "Zm9vYmFyYmF6"),
+            Grammar::Strict,
+            Refusal::OutputTooSmall { needed: 9 },
+            "the lent output is too small: the data need 9 bytes",
+        ),
+    ];
+    for (text, grammar, refusal, words) in rows {
+        let found = read_refusal(text, *grammar);
+        assert_eq!((found, found.to_string().as_str()), (*refusal, *words));
+    }
+    let numbers: Vec<u32> = rows.iter().map(|row| row.2.number()).collect();
+    assert_eq!(numbers, [2, 3, 3, 4, 5, 5, 6, 7, 8, 9, 10]);
+}
+
+#[test]
+fn places_are_those_of_the_refusals_that_have_one() {
+    assert_eq!(read_refusal("x", Grammar::Lax).place(), Some(place(0, 1, 1, false)));
+    assert_eq!(Refusal::OutputTooSmall { needed: 9 }.place(), None);
+    assert_eq!(Refusal::TextTooLong { length: 70_000 }.place(), None);
+}
+
+#[test]
+fn index_counts_places_in_the_whole_bundle() {
+    let second = format!("{M}{}", M.replace("Zg==", "Zg="));
+    assert_eq!(
+        index_refusal(&second, Grammar::Lax),
+        Refusal::CountsDoNotFit {
+            place: place(61, 6, 1, false)
+        }
+    );
+    assert_eq!(
+        index_refusal("  ", Grammar::Lax),
+        Refusal::Opening {
+            place: place(2, 1, 3, true)
+        }
+    );
+    let found = index_refusal(&M.repeat(2), Grammar::Strict);
+    assert_eq!(found, Refusal::TableTooSmall { needed: 11 });
+    assert_eq!(found.number(), 10);
+    assert_eq!(
+        found.to_string(),
+        "the lent table is too small: the index needs 11 numbers"
+    );
+}
+
+#[test]
+fn lines_end_with_lf_cr_or_crlf() {
+    for (text, line, column) in [
+        ("a\nb", 2, 2),
+        ("a\rb", 2, 2),
+        ("a\r\nb", 2, 2),
+        ("a\n\rb", 3, 2),
+        ("a\r\r\nb", 3, 2),
+    ] {
+        assert_eq!(
+            Place::new(text.as_bytes(), text.len()),
+            place(text.len(), line, column, true)
+        );
+    }
+    assert_eq!(
+        Place::new(b"a\r\nb", 2),
+        place(2, 1, 3, false),
+        "between CR and LF it is still the first line"
+    );
+    assert_eq!(Place::new(b"ab", 9), place(2, 1, 3, true));
+}
+
+#[test]
+fn each_refusal_of_write_has_its_number_and_text() {
+    let long = "A".repeat(65);
+    let rows = [
+        (
+            write_refusal(&long, b"f"),
+            11,
+            "the label has 65 bytes; at most 64 are written",
+        ),
+        (
+            write_refusal("-", b"f"),
+            12,
+            "this is no label: it may have printable ASCII characters, and one hyphen or one space between two others",
+        ),
+        (write_refusal("A", b""), 13, "there are no data to write"),
+        (
+            write_refusal("A", &[0; 32_769]),
+            14,
+            "the data have 32769 bytes; at most 32768 are written",
+        ),
+        (
+            write_refusal("A", b"f"),
+            10,
+            "the lent output is too small: the text needs 39 bytes",
+        ),
+    ];
+    for (refusal, number, words) in rows {
+        assert_eq!((refusal.number(), refusal.to_string().as_str()), (number, words));
+    }
+}
+
+#[test]
+fn index_lists_messages_in_order() {
+    let text = format!("{M}{}", M.replace('A', "RSA PRIVATE KEY").replace("Zg==", "Zm9v"));
+    let mut table = [7; 20];
+    let index = zullifern::index(text.as_bytes(), Grammar::Strict, &mut table).unwrap();
+    let entries: Vec<_> = index.iter().collect();
+    assert_eq!((index.len(), index.iter().len(), index.is_empty()), (2, 2, false));
+    assert_eq!(entries[0].text, M.as_bytes());
+    assert_eq!(
+        (entries[1].start, entries[1].label, entries[1].label_offset),
+        (39, "RSA PRIVATE KEY", 50)
+    );
+    assert_eq!((entries[1].text.len(), entries[1].data_size), (text.len() - 39, 3));
+    assert_eq!(index.get(2), None);
+    assert_eq!(index.table(), [2, 0, 39, 11, 1, 1, 39, 67, 50, 15, 3]);
+    assert_eq!(table[11..], [0; 9]);
+}
+
+#[test]
+fn the_empty_text_is_an_empty_bundle() {
+    let mut table = [7; 1];
+    assert!(zullifern::index(b"", Grammar::Lax, &mut table).unwrap().is_empty());
+    assert_eq!(
+        zullifern::index(b"", Grammar::Lax, &mut []),
+        Err(Refusal::TableTooSmall { needed: 1 })
+    );
+}
+
+#[test]
+fn an_empty_label_and_an_empty_output_are_answers_too() {
+    let text = b"-----BEGIN ----------END -----";
+    let message = zullifern::read(text, Grammar::Lax, &mut []).unwrap();
+    assert_eq!((message.label, message.label_offset, message.data), ("", 11, &b""[..]));
+    assert_eq!(zullifern::label(text, Grammar::Lax), "");
+}
+
+#[test]
+fn limits_are_those_of_the_library() {
+    assert_eq!((zullifern::WRITTEN_LIMIT, zullifern::TABLE_LIMIT), (44_535, 10_921));
+    let label = "A".repeat(zullifern::LABEL_LIMIT);
+    let data = vec![0x5A; zullifern::DATA_LIMIT];
+    let mut out = vec![0xAA; zullifern::WRITTEN_LIMIT];
+    assert_eq!(
+        zullifern::write(&label, &data, &mut out).unwrap().len(),
+        zullifern::WRITTEN_LIMIT
+    );
+    let most = b"-----BEGIN ----------END -----".repeat(zullifern::TEXT_LIMIT / 30);
+    let mut table = vec![0; zullifern::TABLE_LIMIT];
+    assert_eq!(zullifern::index(&most, Grammar::Lax, &mut table).unwrap().len(), 2184);
+    assert_eq!(
+        zullifern::index(&most, Grammar::Lax, &mut table[1..]),
+        Err(Refusal::TableTooSmall { needed: 10_921 })
+    );
+}
+
+#[test]
+fn grammars_have_numbers_and_names() {
+    for grammar in Grammar::ALL {
+        assert_eq!(Grammar::try_from(grammar.number()), Ok(grammar));
+        assert_eq!(grammar.to_string().parse(), Ok(grammar));
+    }
+    let unknown = "Strict".parse::<Grammar>().unwrap_err();
+    assert_eq!(
+        unknown.to_string(),
+        "unknown grammar: it is lax (1), standard (2) or strict (3)"
+    );
+    assert!(Grammar::try_from(0).is_err() && Grammar::try_from(257).is_err());
+}
+
+#[cfg(feature = "alloc")]
+#[test]
+fn a_chain_of_certificates_is_read_whole_and_written_again() {
+    let chain = include_str!("../../../examples/chain.pem");
+    let messages = zullifern::owned::read_bundle(chain.as_bytes(), Grammar::Strict).unwrap();
+    assert_eq!(
+        messages.iter().map(|message| message.data.len()).collect::<Vec<_>>(),
+        [536, 468, 464]
+    );
+    let again: String = messages
+        .iter()
+        .map(|m| zullifern::owned::write(&m.label, &m.data).unwrap())
+        .collect();
+    assert_eq!(again, chain);
+    let torn = &chain.as_bytes()[..chain.len() - 1];
+    assert_eq!(
+        zullifern::owned::read_bundle(torn, Grammar::Strict)
+            .unwrap_err()
+            .number(),
+        5
+    );
+}
+
+#[cfg(feature = "alloc")]
+#[test]
+fn what_is_too_long_is_refused_without_the_memory_for_it() {
+    let long = vec![b'A'; 1 << 20];
+    assert_eq!(
+        zullifern::owned::read(&long, Grammar::Lax),
+        Err(Refusal::TextTooLong { length: 1 << 20 })
+    );
+    assert_eq!(
+        zullifern::owned::write(&long, &long),
+        Err(WriteRefusal::LabelTooLong { length: 1 << 20 })
+    );
+}
