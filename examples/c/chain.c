@@ -1,0 +1,83 @@
+/*
+ * Reads a chain of certificates in PEM form from standard input, and prints what it holds.
+ *
+ *     rt staticlib zullifern
+ *     gcc -Iinclude examples/c/chain.c target/staticlib/libzullifern.a -o target/chain
+ *     target/chain < examples/chain.pem
+ *
+ * Exit status: 0 where the chain was read, 1 where it was refused or could not be read.
+ */
+#include <stdio.h>
+#include <string.h>
+
+#include "zullifern.h"
+
+static const char CERTIFICATE[] = "CERTIFICATE";
+
+/* One byte more than is read, so that a longer input is answered as too long. */
+static uint8_t text[ZULLIFERN_TEXT_LIMIT + 1];
+static uint32_t table[ZULLIFERN_TABLE_LIMIT];
+static uint8_t der[ZULLIFERN_READ_LIMIT];
+
+static const char *meaning(uint32_t number)
+{
+    switch (number) {
+    case ZULLIFERN_TEXT_TOO_LONG: return "the text is too long";
+    case ZULLIFERN_OPENING: return "the opening boundary is wrong or missing";
+    case ZULLIFERN_BODY: return "the text between the boundaries is wrong or cut short";
+    case ZULLIFERN_CLOSING: return "the closing boundary, or what follows it, is wrong or missing";
+    case ZULLIFERN_LABEL_TOO_LONG: return "the label is too long";
+    case ZULLIFERN_LABELS_DIFFER: return "the closing label is not the opening label";
+    case ZULLIFERN_COUNTS_DO_NOT_FIT: return "characters and pads are no whole number of bytes";
+    case ZULLIFERN_SPARE_BITS: return "spare bits are not zero";
+    default: return "it cannot be read";
+    }
+}
+
+static int refused(const struct zullifern_report *report)
+{
+    printf("refused with %u at offset %u: %s\n", (unsigned)report->number, (unsigned)report->place,
+           meaning((uint32_t)report->number));
+    return 1;
+}
+
+static int is_certificate(const struct zullifern_entry *entry)
+{
+    return entry->label_length == strlen(CERTIFICATE)
+        && memcmp(text + entry->label_offset, CERTIFICATE, strlen(CERTIFICATE)) == 0;
+}
+
+/* Reads the DER of one message and prints a line on it. */
+static int show(unsigned k, const struct zullifern_entry *entry)
+{
+    struct zullifern_report report;
+    if (!is_certificate(entry)) {
+        printf("%u: not a certificate but %.*s\n", k, (int)entry->label_length, (const char *)text + entry->label_offset);
+        return 1;
+    }
+    if (zullifern_read(text + entry->start, entry->length, ZULLIFERN_LAX, der, sizeof der, &report) != ZULLIFERN_ACCEPTED)
+        return refused(&report);
+    printf("%u: certificate of %u bytes at offset %u, starting %02x %02x\n", k, (unsigned)report.size,
+           (unsigned)entry->start, der[0], der[1]);
+    return 0;
+}
+
+int main(void)
+{
+    struct zullifern_report report;
+    struct zullifern_entry entry;
+    size_t length = fread(text, 1, sizeof text, stdin);
+    int status = 0;
+
+    if (ferror(stdin)) {
+        printf("standard input cannot be read\n");
+        return 1;
+    }
+    if (zullifern_index(text, length, ZULLIFERN_LAX, table, ZULLIFERN_TABLE_LIMIT, &report) != ZULLIFERN_ACCEPTED)
+        return refused(&report);
+    for (uint32_t k = 0; k < table[0] && status == 0; k++) {
+        memcpy(&entry, table + ZULLIFERN_TABLE_SIZE(k), sizeof entry);
+        status = show(k + 1, &entry);
+    }
+    return status;
+}

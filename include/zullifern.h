@@ -1,0 +1,119 @@
+/*
+ * Zullifern: reads, indexes and writes RFC 7468 text (PEM).
+ *
+ * Link with libzullifern.a, which `rt staticlib zullifern` makes. Every function of the library is proved to meet its
+ * contract; the contracts speak of slices, so what a caller has to see to is that
+ *
+ *   - each pointer points to as many items as the length behind it says, and is not NULL, not even where that is 0;
+ *   - an output, a table or a report overlaps nothing else that is passed in the same call.
+ *
+ * Any bytes, any grammar number and any lengths may come in. What a lent output or table holds after a call depends on the
+ * input and on its own length alone, never on what it held before: the result and then zeros where the answer is 0, and
+ * zeros only where it is not. The calls keep nothing between them and may run in any number of threads at once.
+ */
+#ifndef ZULLIFERN_H
+#define ZULLIFERN_H
+
+#include <stddef.h>
+#include <stdint.h>
+
+#ifdef __cplusplus
+extern "C" {
+#endif
+
+/* Grammars. Each strict text is a standard text, and each standard text a lax one, with the same labels and data. */
+enum zullifern_grammar {
+    ZULLIFERN_LAX = 1,      /* white around the message and anywhere between the characters of its data */
+    ZULLIFERN_STANDARD = 2, /* data lines of any length, with blanks behind them */
+    ZULLIFERN_STRICT = 3    /* lines of 64 characters but for the last, no blanks, spare bits zero: what is written */
+};
+
+/* The numbers that a call may answer. Readers check in the order 1 to 10, the writer 11 to 14 and then 10. */
+enum zullifern_number {
+    ZULLIFERN_ACCEPTED = 0,
+    ZULLIFERN_UNKNOWN_GRAMMAR = 1,  /* the grammar's number is not 1, 2 or 3 */
+    ZULLIFERN_TEXT_TOO_LONG = 2,    /* the text is over ZULLIFERN_TEXT_LIMIT bytes */
+    ZULLIFERN_OPENING = 3,          /* it fails in the opening; place: the first byte that cannot stand there, or the end */
+    ZULLIFERN_BODY = 4,             /* it fails in the body; place: likewise */
+    ZULLIFERN_CLOSING = 5,          /* it fails in or behind the closing; place: likewise */
+    ZULLIFERN_LABEL_TOO_LONG = 6,   /* the opening label is over ZULLIFERN_LABEL_LIMIT bytes; place: its first byte */
+    ZULLIFERN_LABELS_DIFFER = 7,    /* the labels differ; place: where the closing label starts */
+    ZULLIFERN_COUNTS_DO_NOT_FIT = 8, /* characters and pads are no whole number of bytes; place: the closing */
+    ZULLIFERN_SPARE_BITS = 9,       /* strict only: spare bits are not zero; place: the last alphabet character */
+    ZULLIFERN_NO_ROOM = 10,         /* the lent output or table is too small; the report's size tells what is needed */
+    ZULLIFERN_WRITE_LABEL_TOO_LONG = 11, /* the label is over ZULLIFERN_LABEL_LIMIT bytes */
+    ZULLIFERN_WRITE_NOT_A_LABEL = 12,    /* it is no label */
+    ZULLIFERN_WRITE_NO_DATA = 13,        /* there are no data */
+    ZULLIFERN_WRITE_DATA_TOO_LONG = 14   /* the data are over ZULLIFERN_DATA_LIMIT bytes */
+};
+
+/* Limits, in bytes; the table's in numbers. */
+#define ZULLIFERN_TEXT_LIMIT 65536
+#define ZULLIFERN_LABEL_LIMIT 64
+#define ZULLIFERN_DATA_LIMIT 32768
+/* The most that is read: a text within its limit has fewer bytes of data. */
+#define ZULLIFERN_READ_LIMIT 49152
+/* The most that is written. */
+#define ZULLIFERN_WRITTEN_LIMIT 44535
+/* The most numbers that a table needs: a text within its limit has at most 2184 messages. */
+#define ZULLIFERN_TABLE_LIMIT 10921
+
+/* How many numbers of a table belong to one message, and how many the table of so many messages has. */
+#define ZULLIFERN_ENTRY_NUMBERS 5
+#define ZULLIFERN_TABLE_SIZE(count) (1 + ZULLIFERN_ENTRY_NUMBERS * (size_t)(count))
+
+/* How many bytes the text has that is written of a label and data of these lengths, both within their limits. */
+#define ZULLIFERN_WRITTEN_SIZE(label_length, data_length)                                                                 \
+    (32 + 2 * (size_t)(label_length) + 4 * (((size_t)(data_length) + 2) / 3) + ((size_t)(data_length) + 47) / 48)
+
+/* What a call tells of its answer: eight numbers, all of which each call sets. */
+struct zullifern_report {
+    uint64_t number;       /* what the call itself answers too */
+    uint64_t place;        /* an offset in the text for the numbers 3 to 9, else 0 */
+    uint64_t size;         /* what the result needs for 0 and 10, else 0: bytes, or numbers of the table */
+    uint64_t label_offset; /* read and label: where the opening label starts in the text */
+    uint64_t label_length; /* read and label: its length; both are 0 unless the text passed the checks 1 to 9 */
+    uint64_t reserved[3];  /* 0 */
+};
+
+/* The numbers of a table that belong to one message; offsets are those in the bundle. The first entry is at table + 1. */
+struct zullifern_entry {
+    uint32_t start;
+    uint32_t length;
+    uint32_t label_offset;
+    uint32_t label_length;
+    uint32_t data_size;
+};
+
+/*
+ * Reads one message that fills the whole text, and answers 0 to 10. After 0 the data are the first report->size bytes of out,
+ * and the label is the part of the text that the report tells.
+ */
+uint32_t zullifern_read(const uint8_t *text, size_t text_length, uint32_t grammar, uint8_t *out, size_t out_length,
+                        struct zullifern_report *report);
+
+/*
+ * Reports which part of the text is the opening label of the one message that fills it. Where one of the checks 1 to 9 refuses
+ * the text its length is 0, as it is for an empty label: the read call tells them apart. It answers 0 always.
+ */
+uint32_t zullifern_label(const uint8_t *text, size_t text_length, uint32_t grammar, struct zullifern_report *report);
+
+/*
+ * Indexes a bundle, zero or more messages end to end that fill the text, and answers 0 to 10. After 0 the table holds the
+ * count and then a zullifern_entry for each message. Places are offsets in the whole bundle.
+ */
+uint32_t zullifern_index(const uint8_t *text, size_t text_length, uint32_t grammar, uint32_t *table, size_t table_length,
+                         struct zullifern_report *report);
+
+/*
+ * Writes a label and data as strict text with LF line ends, and answers 0 or 10 to 14. After 0 the text is the first
+ * report->size bytes of out; no zero byte is put behind it where it fills the output.
+ */
+uint32_t zullifern_write(const uint8_t *label, size_t label_length, const uint8_t *data, size_t data_length, uint8_t *out,
+                         size_t out_length, struct zullifern_report *report);
+
+#ifdef __cplusplus
+}
+#endif
+
+#endif
