@@ -1,0 +1,125 @@
+//! The calls of the package against the raw ones, on every start and many damages of a small bundle: the same number, place,
+//! size, label and bytes, and no call stops.
+
+use zullifern::raw::{self, Report};
+use zullifern::{Grammar, Refusal, WriteRefusal};
+
+const BUNDLE: &[u8] = b"-----BEGIN A-----\nZg==\n-----END A-----\n-----BEGIN B C-----\r\nZm9v\r-----END B C-----\n";
+const MESSAGE: usize = 39;
+/// Bytes of each kind that the grammars know, and some that they do not.
+const DAMAGES: &[u8] = b"\0\t\n\x0b\x0c\r !+-/09=AEZagz~\x7f\x80\xff";
+const ROOMS: [usize; 4] = [0, 1, 6, 40];
+
+/// The text with a byte in place of another, with one more, and without one.
+fn damaged(text: &[u8]) -> impl Iterator<Item = Vec<u8>> + '_ {
+    let places = (0..text.len()).flat_map(move |at| DAMAGES.iter().map(move |&byte| (at, byte)));
+    places.flat_map(move |(at, byte)| {
+        [
+            [&text[..at], &[byte], &text[at + 1..]].concat(),
+            [&text[..at], &[byte], &text[at..]].concat(),
+            [&text[..at], &text[at + 1..]].concat(),
+        ]
+    })
+}
+
+fn texts() -> Vec<Vec<u8>> {
+    let starts = (0..=BUNDLE.len()).map(|end| BUNDLE[..end].to_vec());
+    let long_label = BUNDLE[..MESSAGE]
+        .to_vec()
+        .iter()
+        .map(|&c| if c == b'A' { vec![c; 65] } else { vec![c] })
+        .collect::<Vec<_>>();
+    let others = [long_label.concat(), vec![b' '; zullifern::TEXT_LIMIT + 1]];
+    starts
+        .chain(damaged(&BUNDLE[..MESSAGE]))
+        .chain(damaged(BUNDLE))
+        .chain(others)
+        .collect()
+}
+
+/// The refusal has the number and the place of the report, or what 10 needs.
+fn same_refusal(refusal: Refusal, report: &Report) {
+    assert_eq!(u64::from(refusal.number()), report.number);
+    assert_eq!(refusal.place().map_or(0, |place| place.offset as u64), report.place);
+    if let Refusal::OutputTooSmall { needed } | Refusal::TableTooSmall { needed } = refusal {
+        assert_eq!(needed as u64, report.size);
+    }
+}
+
+fn try_read(text: &[u8], grammar: Grammar, room: usize) {
+    let (mut out, mut plain, mut report) = (vec![0xAA; room], vec![0x55; room], Report::default());
+    raw::read(text, grammar.number(), &mut plain, &mut report);
+    match zullifern::read(text, grammar, &mut out) {
+        Ok(message) => {
+            assert_eq!(report.number, 0);
+            assert_eq!(message.data, &plain[..report.size as usize]);
+            assert_eq!(
+                (message.label_offset, message.label.len()),
+                (report.label_offset as usize, report.label_length as usize)
+            );
+            assert_eq!(
+                message.label.as_bytes(),
+                &text[message.label_offset..][..message.label.len()]
+            );
+        }
+        Err(refusal) => same_refusal(refusal, &report),
+    }
+    assert_eq!(out, plain);
+    raw::label(text, grammar.number(), &mut report);
+    assert_eq!(zullifern::label(text, grammar).len() as u64, report.label_length);
+}
+
+fn try_index(text: &[u8], grammar: Grammar, room: usize) {
+    let (mut table, mut plain, mut report) = (vec![7; room], vec![9; room], Report::default());
+    raw::index(text, grammar.number(), &mut plain, &mut report);
+    match zullifern::index(text, grammar, &mut table) {
+        Ok(index) => {
+            assert_eq!((report.number, index.table()), (0, &plain[..report.size as usize]));
+            assert_eq!(index.iter().count(), plain[0] as usize);
+            let lengths: usize = index.iter().map(|entry| entry.text.len()).sum();
+            assert_eq!(lengths, text.len(), "the messages fill the text");
+        }
+        Err(refusal) => same_refusal(refusal, &report),
+    }
+    assert_eq!(table, plain);
+}
+
+#[test]
+fn read_label_and_index_answer_as_the_raw_calls_do() {
+    for text in texts() {
+        for grammar in Grammar::ALL {
+            for room in ROOMS {
+                try_read(&text, grammar, room);
+                try_index(&text, grammar, room);
+            }
+        }
+    }
+}
+
+fn try_write(label: &[u8], data: &[u8], room: usize) {
+    let (mut out, mut plain, mut report) = (vec![0xAA; room], vec![0x55; room], Report::default());
+    raw::write(label, data, &mut plain, &mut report);
+    match zullifern::write(label, data, &mut out) {
+        Ok(text) => assert_eq!((report.number, text.as_bytes()), (0, &plain[..report.size as usize])),
+        Err(refusal) => {
+            assert_eq!(u64::from(refusal.number()), report.number);
+            if let WriteRefusal::OutputTooSmall { needed } = refusal {
+                assert_eq!(needed, zullifern::written_size(label.len(), data.len()));
+                assert_eq!(needed as u64, report.size);
+            }
+        }
+    }
+    assert_eq!(out, plain);
+}
+
+#[test]
+fn write_answers_as_the_raw_call_does() {
+    let pairs = (0..=255).flat_map(|a| DAMAGES.iter().map(move |&b| vec![a, b]));
+    let labels = pairs.chain([vec![], vec![b'A'; 64], vec![b'A'; 65]]);
+    for label in labels {
+        for size in [0, 1, 2, 3, 48, 49, 32_768, 32_769] {
+            try_write(&label, &vec![0x5A; size], 60);
+        }
+        try_write(&label, &[0x5A; 49], 300);
+    }
+}
