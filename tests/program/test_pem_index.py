@@ -123,8 +123,11 @@ class Program(unittest.TestCase):
                 printed = lines(text, number)
                 self.assertEqual(run(WRAPPER, name, input=text), (status(printed), printed, b""))
 
-    def test_first_command_of_the_readme(self):
-        self.assertEqual(lines(CHAIN, 3), b"0 782 CERTIFICATE 536\n782 688 CERTIFICATE 468\n1470 684 CERTIFICATE 464\n")
+    def test_first_command_of_the_readme_prints_what_it_shows(self):
+        readme = (ROOT / "README.md").read_text()
+        printed = run(WRAPPER, "strict", input=CHAIN)[1].decode()
+        self.assertIn("\n    bin/pem_index strict < examples/chain.pem\n", readme)
+        self.assertIn("\n\n" + "".join("    " + line for line in printed.splitlines(keepends=True)) + "\n", readme)
 
 
 if __name__ == "__main__":
