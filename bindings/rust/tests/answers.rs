@@ -34,96 +34,39 @@ fn place(offset: usize, line: usize, column: usize, at_end: bool) -> Place {
     }
 }
 
+#[rustfmt::skip]
+fn refusals_of_read() -> Vec<(String, Grammar, Refusal, &'static str)> {
+    let long = "A".repeat(65);
+    vec![
+        ("-".repeat(65_537), Grammar::Lax, Refusal::TextTooLong { length: 65_537 },
+         "the text has 65537 bytes; at most 65536 are read"),
+        (M.replace("BEGIN", "begin"), Grammar::Lax, Refusal::Opening { place: place(5, 1, 6, false) },
+         "the text goes wrong in the opening boundary, at line 1, column 6 (offset 5)"),
+        (String::new(), Grammar::Strict, Refusal::Opening { place: place(0, 1, 1, true) },
+         "the text ends too early in the opening boundary, at line 1, column 1 (offset 0)"),
+        (M.replace("Zg==", "Zm 9v"), Grammar::Standard, Refusal::Body { place: place(21, 2, 4, false) },
+         "the text goes wrong between the boundaries, at line 2, column 4 (offset 21)"),
+        (M.replace("-----\nZg", "------\nZg"), Grammar::Lax, Refusal::Closing { place: place(18, 1, 19, false) },
+         "the text goes wrong in the closing boundary or behind it, at line 1, column 19 (offset 18)"),
+        (M[..38].to_string(), Grammar::Strict, Refusal::Closing { place: place(38, 3, 16, true) },
+         "the text ends too early in the closing boundary or behind it, at line 3, column 16 (offset 38)"),
+        (M.replace('A', &long), Grammar::Lax, Refusal::LabelTooLong { place: place(11, 1, 12, false) },
+         "the label at line 1, column 12 (offset 11) is longer than 64 bytes"),
+        (M.replace("END A", "END B"), Grammar::Lax, Refusal::LabelsDiffer { place: place(32, 3, 10, false) },
+         "the closing label at line 3, column 10 (offset 32) differs from the opening label"),
+        (M.replace("Zg==", "Zg="), Grammar::Lax, Refusal::CountsDoNotFit { place: place(22, 3, 1, false) },
+         "the base64 characters and pads before line 3, column 1 (offset 22) are no whole number of bytes"),
+        (M.replace("Zg==", "Zh=="), Grammar::Strict, Refusal::SpareBits { place: place(19, 2, 2, false) },
+         "the last base64 character, at line 2, column 2 (offset 19), has spare bits that are not zero"),
+        (M.replace("Zg==", "Zm9vYmFyYmF6"), Grammar::Strict, Refusal::OutputTooSmall { needed: 9 },
+         "the lent output is too small: the data need 9 bytes"),
+    ]
+}
+
 #[test]
 fn each_refusal_of_read_has_its_number_place_and_text() {
-    let long = "A".repeat(65);
-    let rows: &[(String, Grammar, Refusal, &str)] = &[
-        (
-            "-".repeat(65_537),
-            Grammar::Lax,
-            Refusal::TextTooLong { length: 65_537 },
-            "the text has 65537 bytes; at most 65536 are read",
-        ),
-        (
-            M.replace("BEGIN", "begin"),
-            Grammar::Lax,
-            Refusal::Opening {
-                place: place(5, 1, 6, false),
-            },
-            "the text goes wrong in the opening boundary, at line 1, column 6 (offset 5)",
-        ),
-        (
-            String::new(),
-            Grammar::Strict,
-            Refusal::Opening {
-                place: place(0, 1, 1, true),
-            },
-            "the text ends too early in the opening boundary, at line 1, column 1 (offset 0)",
-        ),
-        (
-            M.replace("Zg==", "Zm 9v"),
-            Grammar::Standard,
-            Refusal::Body {
-                place: place(21, 2, 4, false),
-            },
-            "the text goes wrong between the boundaries, at line 2, column 4 (offset 21)",
-        ),
-        (
-            M.replace("-----\nZg", "------\nZg"),
-            Grammar::Lax,
-            Refusal::Closing {
-                place: place(18, 1, 19, false),
-            },
-            "the text goes wrong in the closing boundary or behind it, at line 1, column 19 (offset 18)",
-        ),
-        (
-            M[..38].to_string(),
-            Grammar::Strict,
-            Refusal::Closing {
-                place: place(38, 3, 16, true),
-            },
-            "the text ends too early in the closing boundary or behind it, at line 3, column 16 (offset 38)",
-        ),
-        (
-            M.replace('A', &long),
-            Grammar::Lax,
-            Refusal::LabelTooLong {
-                place: place(11, 1, 12, false),
-            },
-            "the label at line 1, column 12 (offset 11) is longer than 64 bytes",
-        ),
-        (
-            M.replace("END A", "END B"),
-            Grammar::Lax,
-            Refusal::LabelsDiffer {
-                place: place(32, 3, 10, false),
-            },
-            "the closing label at line 3, column 10 (offset 32) differs from the opening label",
-        ),
-        (
-            M.replace("Zg==", "Zg="),
-            Grammar::Lax,
-            Refusal::CountsDoNotFit {
-                place: place(22, 3, 1, false),
-            },
-            "the base64 characters and pads before line 3, column 1 (offset 22) are no whole number of bytes",
-        ),
-        (
-            M.replace("Zg==", "Zh=="),
-            Grammar::Strict,
-            Refusal::SpareBits {
-                place: place(19, 2, 2, false),
-            },
-            "the last base64 character, at line 2, column 2 (offset 19), has spare bits that are not zero",
-        ),
-        (
-            M.replace("Zg==", "Zm9vYmFyYmF6"),
-            Grammar::Strict,
-            Refusal::OutputTooSmall { needed: 9 },
-            "the lent output is too small: the data need 9 bytes",
-        ),
-    ];
-    for (text, grammar, refusal, words) in rows {
+    let rows = refusals_of_read();
+    for (text, grammar, refusal, words) in &rows {
         let found = read_refusal(text, *grammar);
         assert_eq!((found, found.to_string().as_str()), (*refusal, *words));
     }
