@@ -51,7 +51,7 @@ enum zullifern_number {
 #define ZULLIFERN_TEXT_LIMIT 65536
 #define ZULLIFERN_LABEL_LIMIT 64
 #define ZULLIFERN_DATA_LIMIT 32768
-/* The most that is read: a text within its limit has fewer bytes of data. */
+/* Room for the data of any text within its limit: four characters give three bytes. */
 #define ZULLIFERN_READ_LIMIT 49152
 /* The most that is written. */
 #define ZULLIFERN_WRITTEN_LIMIT 44535

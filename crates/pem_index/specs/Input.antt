@@ -6,10 +6,10 @@ use Rattle.pem_index.specs.declared.input.More.{More}
 use Rattle.pem_index.specs.declared.input.More.the-variants as more
 
 -- What was read behind n bytes is a byte at least, and within the buffer.
-abbrev pub Moved : ℕ → More → ℕ → Type 0
-Moved n (more.Bytes k) size = (0 < k) × (n + k ≤ size)
-Moved n more.End size = Unit {0}
-Moved n more.Failed size = Unit {0}
+abbrev pub ReadBehind : ℕ → More → ℕ → Type 0
+ReadBehind n (more.Bytes k) size = (0 < k) × (n + k ≤ size)
+ReadBehind n more.End size = Unit {0}
+ReadBehind n more.Failed size = Unit {0}
 
 -- The input lies within the buffer.
 abbrev pub Within : Input → ℕ → Type 0

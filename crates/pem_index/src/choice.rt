@@ -1,10 +1,10 @@
-// The grammar that a word names.
+// The grammar that a word names, by its number. The library may not know the number.
 ghost use mathlib.Core.Path.{_≡_};
-ghost use Rattle.pem_index.specs.Words.{Names, extended, numberOf};
-use grammar::Grammar as Known;
+ghost use Rattle.pem_index.specs.Words.{Names, extended, spelled};
+use grammar::Grammar;
 
 pub enum Choice {
-    Grammar(u32),
+    Number(u32),
     Unknown,
 }
 
@@ -22,7 +22,7 @@ fn extend(number: u32, c: u8) -> Choice
         return Choice::Unknown;
     }
     if number < FEW_ENOUGH {
-        Choice::Grammar(number * 10 + (c - b'0') as u32)
+        Choice::Number(number * 10 + (c - b'0') as u32)
     } else {
         Choice::Unknown
     }
@@ -30,7 +30,7 @@ fn extend(number: u32, c: u8) -> Choice
 
 // The number that a word spells.
 fn number(word: &[u8]) -> Choice
-    ensures { λ r. ⌜ r ≡ numberOf (now (word .entry)) ⌝ }
+    ensures { λ r. ⌜ r ≡ spelled (now (word .entry)) ⌝ }
 {
     if word.len() == 0 {
         return Choice::Unknown;
@@ -39,7 +39,7 @@ fn number(word: &[u8]) -> Choice
     let mut i = 0;
     while i < word.len() {
         match extend(number, word[i]) {
-            Choice::Grammar(next) => {
+            Choice::Number(next) => {
                 number = next;
             }
             Choice::Unknown => {
@@ -48,20 +48,20 @@ fn number(word: &[u8]) -> Choice
         }
         i += 1;
     }
-    Choice::Grammar(number)
+    Choice::Number(number)
 }
 
 pub fn of(word: &[u8]) -> Choice
     ensures { λ r. ⌜ Names (now (word .entry)) r ⌝ }
 {
     if check::same(word, b"lax") {
-        return Choice::Grammar(Known::LAX);
+        return Choice::Number(Grammar::LAX);
     }
     if check::same(word, b"standard") {
-        return Choice::Grammar(Known::STANDARD);
+        return Choice::Number(Grammar::STANDARD);
     }
     if check::same(word, b"strict") {
-        return Choice::Grammar(Known::STRICT);
+        return Choice::Number(Grammar::STRICT);
     }
     number(word)
 }

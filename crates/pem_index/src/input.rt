@@ -1,7 +1,7 @@
 // Standard input, as far as a buffer has room for it.
 ghost use Prim.Native.Nat.{_≤_};
 ghost use lib.ListN.{length};
-ghost use Rattle.pem_index.specs.Input.{Moved, Within};
+ghost use Rattle.pem_index.specs.Input.{ReadBehind, Within};
 use libc::STDIN_FILENO;
 
 pub enum Input {
@@ -19,7 +19,7 @@ enum More {
 // Reads once, behind the first `n` bytes.
 fn read_more(text: &mut [u8], n: usize) -> More
     requires { ⌜ n ≤ length (now text) ⌝ }
-    ensures { λ r. ⌜ Moved n r (length (now (text .entry))) ⌝ }
+    ensures { λ r. ⌜ ReadBehind n r (length (now (text .entry))) ⌝ }
 {
     let end = text.len();
     let rest = &mut text[n..end];

@@ -42,7 +42,7 @@ fn index_input(grammar: u32) {
 fn chosen() -> Choice {
     let count = os::arg_count();
     if count < 2 {
-        return Choice::Grammar(Grammar::LAX);
+        return Choice::Number(Grammar::LAX);
     }
     if count > 2 {
         return Choice::Unknown;
@@ -54,7 +54,7 @@ fn chosen() -> Choice {
 
 fn main() {
     match chosen() {
-        Choice::Grammar(number) => index_input(number),
+        Choice::Number(number) => index_input(number),
         Choice::Unknown => print::word(
             b"pem_index: give one grammar (lax, standard, strict or a number) and the text on standard input\n",
         ),

@@ -153,34 +153,25 @@ fn the_owner_of_white() {
     assert_eq!(index(&text, LAX), accepted(&table, (0, 0)));
 }
 
+/// Number 10 with what the result needs, and zeros in all of the room.
+fn small<T: Clone + Default>(size: usize, label: (usize, usize), room: usize) -> Answer<T> {
+    Answer {
+        number: 10,
+        place: 0,
+        size,
+        label,
+        lent: vec![T::default(); room],
+    }
+}
+
 #[test]
 fn too_little_room() {
     let mut paper = Paper::new();
-    assert_eq!(answer(&paper.judge_read(M, STRICT), 1).lent, b"f");
-    let small = Answer {
-        number: 10,
-        place: 0,
-        size: 1,
-        label: (11, 1),
-        lent: Vec::new(),
-    };
-    assert_eq!(answer(&paper.judge_read(M, STRICT), 0), small);
-    let small = Answer {
-        number: 10,
-        place: 0,
-        size: 11,
-        label: (0, 0),
-        lent: vec![0; 10],
-    };
-    assert_eq!(answer(&paper.judge_index(&[M, M].concat(), STRICT), 10), small);
-    let small = Answer {
-        number: 10,
-        place: 0,
-        size: 39,
-        label: (0, 0),
-        lent: vec![0; 38],
-    };
-    assert_eq!(answer(&paper.judge_write(b"A", b"f"), 38), small);
+    let (message, bundle) = (paper.judge_read(M, STRICT), paper.judge_index(&[M, M].concat(), STRICT));
+    assert_eq!(answer(&message, 1).lent, b"f");
+    assert_eq!(answer(&message, 0), small(1, (11, 1), 0));
+    assert_eq!(answer(&bundle, 10), small(11, (0, 0), 10));
+    assert_eq!(answer(&paper.judge_write(b"A", b"f"), 38), small(39, (0, 0), 38));
 }
 
 #[test]

@@ -8,33 +8,33 @@ use native.Mathlib.Omega.{arith}
 use native.Mathlib.Numerals.{add-one}
 use lib.ListN.{length, drop, getD, drop-of-length-le}
 use lib.Seq.{drop-cons}
-use Rattle.pem_index.specs.Words.{extended, onward, numberFrom, numberOf}
+use Rattle.pem_index.specs.Words.{extended, onward, spelledFrom, spelled}
 use Rattle.pem_index.specs.declared.choice.Choice.{Choice}
-use Rattle.pem_index.specs.declared.choice.Choice.the-variants.{Grammar, Unknown}
+use Rattle.pem_index.specs.declared.choice.Choice.the-variants.{Number, Unknown}
 use Rattle.pem_index.proofs.choice.number.Statement.{statement}
 use Rattle.pem_index.proofs.choice.number.Tie as tie
 
 -- A character, and those behind it.
 number-next : (n : ℕ) (l : List ℕ) (i : ℕ) (t : Choice) → i < length l → extended n (getD l i 0) ≡ t
-    → numberFrom n (drop i l) ≡ onward t (λ m. numberFrom m (drop (i + 1) l))
-unfolding numberFrom
+    → spelledFrom n (drop i l) ≡ onward t (λ m. spelledFrom m (drop (i + 1) l))
+unfolding spelledFrom
 number-next n l i t h e = rw (add-one, drop-cons l i 0, e)
 
-number-end : (n : ℕ) → numberFrom n [] ≡ Grammar n
-unfolding numberFrom
+number-end : (n : ℕ) → spelledFrom n [] ≡ Number n
+unfolding spelledFrom
 number-end n = refl
 
 -- A word that is not empty.
-number-word : (l : List ℕ) → 0 < length l → numberOf l ≡ numberFrom 0 l
+number-word : (l : List ℕ) → 0 < length l → spelled l ≡ spelledFrom 0 l
 number-word [] h = absurd (omega arith)
 number-word (c ∷ l) h = refl
 
-number-empty : (l : List ℕ) → length l ≡ 0 → Unknown ≡ numberOf l
+number-empty : (l : List ℕ) → length l ≡ 0 → Unknown ≡ spelled l
 number-empty [] h = refl
 number-empty (c ∷ l) h = absurd (omega arith)
 
 abbrev Inv-loop : tie.InvT-loop
-Inv-loop word number₀ i₀ number i = (i ≤ length word) × (numberOf word ≡ numberFrom number (drop i word))
+Inv-loop word number₀ i₀ number i = (i ≤ length word) × (spelled word ≡ spelledFrom number (drop i word))
 
 abbrev μ-loop : tie.MeasureT-loop
 μ-loop word number₀ i₀ number i = length word - i
@@ -75,7 +75,7 @@ loop-again c =
     let at-loop = in-loop .before in (
       search needs,
       at-loop .loop .inv .1
-          ∙ number-next (at-loop .loop .number) (at-loop .before .before .before .args .word .now) (at-loop .loop .i) (Grammar (c .before .next .given .0 .0)) (in-loop .loop-test .taken) (sym (c .before .before .before .extend .ensures) ∙ c .before .next .given .1),
+          ∙ number-next (at-loop .loop .number) (at-loop .before .before .before .args .word .now) (at-loop .loop .i) (Number (c .before .next .given .0 .0)) (in-loop .loop-test .taken) (sym (c .before .before .before .extend .ensures) ∙ c .before .next .given .1),
     )
 
 returns-3 : tie.Need-returns-3 Inv-loop μ-loop

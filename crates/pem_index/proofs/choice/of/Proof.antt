@@ -7,9 +7,10 @@ use mathlib.Core.List.{List}
 use Prim.Native.Nat.{ℕ}
 use native.Mathlib.Omega.{arith}
 use lib.ListN.{length}
-use Rattle.pem_index.specs.Words.{Names, lax, standard, strict, numberOf}
+use Rattle.grammar.specs.Grammars.{laxNumber, standardNumber, strictNumber}
+use Rattle.pem_index.specs.Words.{Names, lax, standard, strict, spelled}
 use Rattle.pem_index.specs.declared.choice.Choice.{Choice}
-use Rattle.pem_index.specs.declared.choice.Choice.the-variants.{Grammar}
+use Rattle.pem_index.specs.declared.choice.Choice.the-variants.{Number}
 use Rattle.pem_index.proofs.choice.of.Statement.{statement}
 use Rattle.pem_index.proofs.choice.of.Tie as tie
 
@@ -17,16 +18,16 @@ use Rattle.pem_index.proofs.choice.of.Tie as tie
 apart : (a b : List ℕ) → length a ≢ length b → a ≢ b
 apart a b h e = h (ap length e)
 
-names-lax : (word : List ℕ) → word ≡ lax → Names word (Grammar 1)
+names-lax : (word : List ℕ) → word ≡ lax → Names word (Number laxNumber)
 names-lax word h = record { isLax = λ e. refl; isStandard = λ e. absurd (apart lax standard (omega arith) (sym h ∙ e)); isStrict = λ e. absurd (apart lax strict (omega arith) (sym h ∙ e)); isNoName = λ x y z. absurd (x h) }
 
-names-standard : (word : List ℕ) → word ≡ standard → Names word (Grammar 2)
+names-standard : (word : List ℕ) → word ≡ standard → Names word (Number standardNumber)
 names-standard word h = record { isLax = λ e. absurd (apart standard lax (omega arith) (sym h ∙ e)); isStandard = λ e. refl; isStrict = λ e. absurd (apart standard strict (omega arith) (sym h ∙ e)); isNoName = λ x y z. absurd (y h) }
 
-names-strict : (word : List ℕ) → word ≡ strict → Names word (Grammar 3)
+names-strict : (word : List ℕ) → word ≡ strict → Names word (Number strictNumber)
 names-strict word h = record { isLax = λ e. absurd (apart strict lax (omega arith) (sym h ∙ e)); isStandard = λ e. absurd (apart strict standard (omega arith) (sym h ∙ e)); isStrict = λ e. refl; isNoName = λ x y z. absurd (z h) }
 
-names-number : (word : List ℕ) (choice : Choice) → word ≢ lax → word ≢ standard → word ≢ strict → choice ≡ numberOf word → Names word choice
+names-number : (word : List ℕ) (choice : Choice) → word ≢ lax → word ≢ standard → word ≢ strict → choice ≡ spelled word → Names word choice
 names-number word choice x y z h = record { isLax = λ e. absurd (x e); isStandard = λ e. absurd (y e); isStrict = λ e. absurd (z e); isNoName = λ x y z. h }
 
 slice-aggregate-same : tie.Need-slice-aggregate-same
