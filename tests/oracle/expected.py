@@ -7,50 +7,79 @@ import sys
 import oracle
 from forms import GRAMMARS, checksum, numbers, samples, text_of
 
+# The numbers of a report that no call fills.
+RESERVED = (0, 0, 0)
 
-def line(name, t, g, room):
-    a = oracle.read(t, g, room)
-    assert len(a.out) == room and not any(a.out[a.size if a.number == 0 else 0:])
-    data = a.out[:a.size] if a.number == 0 else b""
-    shown = "data=" + data.hex() if len(data) <= 48 else checksum(data)
-    label = oracle.label_part(t, g)
-    assert (label is not None) == (a.number in (0, 10))
-    if label is not None:
-        assert label == (a.label_at, a.label_len)
-    at, length = label or (0, 0)
-    return "%s: %s %d read %d %s %s clean label %s" % (
-        name, GRAMMARS.get(g, g), room, a.number, numbers(a.row() + (0, 0, 0)), shown,
-        numbers((0, 0, 0, 0, at, length, 0, 0, 0)))
+# What a text that was written is read back into.
+DATA_ROOM = 32769
 
 
-def outcome(t, g, room):
-    a = oracle.read(t, g, room)
-    return "%d at %d clean" % (a.number, a.place)
+def made(n):
+    """The first n triangular numbers, modulo 256."""
+    return bytes(i * (i + 1) // 2 % 256 for i in range(n))
 
 
-def index_line(name, t, g, room):
-    a = oracle.index(t, g, room)
+def result(a, room):
+    """What an accepted answer has filled; all behind it is zero."""
     size = a.size if a.number == 0 else 0
     assert len(a.out) == room and not any(a.out[size:])
-    words = [name + ":", GRAMMARS.get(g, g), room, "index", a.number, *a.row(), 0, 0, 0, "table", *a.out[:size], "clean"]
-    return numbers(words)
+    return a.out[:size]
 
 
-def index_outcome(t, g, room):
+def shown_data(data):
+    return "data=" + data.hex() if len(data) <= 48 else checksum(data)
+
+
+def shown_text(text):
+    return "text=" + text.decode().replace("\n", "$") if len(text) <= 200 else checksum(text)
+
+
+def print_read(name, t, g, room):
+    a, part = oracle.read(t, g, room), oracle.label_part(t, g)
+    assert part == ((a.label_at, a.label_len) if a.number in (0, 10) else None)
+    at, length = part or (0, 0)
+    print(name + ":", GRAMMARS.get(g, g), room, "read", numbers((a.number, *a.row(), *RESERVED)), shown_data(result(a, room)), "clean",
+          "label", numbers((0, 0, 0, 0, at, length, *RESERVED)), shown_text(t[at:at + length]))
+
+
+def print_index(name, t, g, room):
     a = oracle.index(t, g, room)
-    return "%d at %d clean" % (a.number, a.place)
+    print(name + ":", GRAMMARS.get(g, g), room, "index", numbers((a.number, *a.row(), *RESERVED)), numbers(("table", *result(a, room))), "clean")
 
 
-for mode, name, room, count, form in samples(sys.argv[1], 5):
-    t, room = text_of(form, int(count)), int(room)
-    if mode == "brief":
-        print(name + ": " + " ".join(outcome(t, g, room) for g in (1, 2, 3)))
-    elif mode == "starts":
-        for k in range(len(t) + 1):
-            print("%s: %d %s" % (name, k, " ".join(index_outcome(t[:k], g, room) for g in (1, 2, 3))))
-    elif mode == "index" or mode.startswith("table"):
-        for g in (1, 2, 3) if mode == "index" else (int(mode[5:]),):
-            print(index_line(name, t, g, room))
+def print_written(name, label, data, room):
+    """Answers the text that was written."""
+    a = oracle.write(label, data, room)
+    text = result(a, room)
+    print(name + ": write", room, numbers((a.number, *a.row(), *RESERVED)), shown_text(text), "clean")
+    return text
+
+
+def found(text, g):
+    """The label and the data that the read call finds."""
+    a = oracle.read(text, g, DATA_ROOM)
+    return text[a.label_at:a.label_at + a.label_len], result(a, DATA_ROOM)
+
+
+def write_sample(mode, name, room, head, data):
+    label, data = found(head, 3) if mode == "restore" else (head, data)
+    text = print_written(name, label, data, room)
+    assert mode != "restore" or not text or text == head or b"\r" in head
+    if mode != "write":
+        for g in GRAMMARS:
+            assert not text or found(text, g) == (label, data)
+            print_read(name, text, g, DATA_ROOM)
+
+
+def text_sample(mode, name, room, t):
+    for start in (t[:k] for k in range(len(t) + 1)) if mode == "starts" else (t,):
+        for g in GRAMMARS if mode in ("each", "index", "starts") else (int(mode.removeprefix("table")),):
+            (print_index if mode[0] in "ist" else print_read)(name, start, g, room)
+
+
+for mode, name, room, count, rest in samples(sys.argv[1], 5):
+    if mode in ("write", "back", "restore"):
+        length, head, form = rest.split(":", 2)
+        write_sample(mode, name, int(room), text_of(head, int(count)), text_of(form, int(count)) + made(int(length)))
     else:
-        for g in (1, 2, 3) if mode == "each" else (int(mode),):
-            print(line(name, t, g, room))
+        text_sample(mode, name, int(room), text_of(rest, int(count)))

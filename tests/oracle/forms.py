@@ -5,6 +5,7 @@ import zlib
 MARKS = {"$": 10, "%": 13, "&": 9, "(": 11, ")": 12, "*": 0, "?": 127, "`": 193, "^": 255}
 LETTERS = {byte: mark for mark, byte in MARKS.items()}
 RESERVED = set(MARKS) | set("@{}")
+# Of the samples of one script: the program has room for those of both.
 LIMIT = 65536
 GRAMMARS = {1: "lax", 2: "standard", 3: "strict"}
 

@@ -1,6 +1,7 @@
-"""Writes the samples, standard input of the program samples.
+"""Writes the samples of the calls that take a text: the first half of the standard input of the program samples.
 
     python3 samples.py DOCUMENT_001 > crates/samples/stdin
+    python3 write_samples.py DOCUMENT_001 >> crates/samples/stdin
 """
 import random
 import sys
@@ -17,10 +18,6 @@ def put(mode, name, text, room=128, count=1):
 
 def each(name, t, **more):
     put("each", name, form(t), **more)
-
-
-def brief(name, t):
-    put("brief", name, form(t), room=8)
 
 
 def index(name, t, room=20, **more):
@@ -223,26 +220,26 @@ for n in (1, 2, 3, 47, 48, 49, 32768, 32769):
 
 comment("Every start of M, and of M with CRLF line ends.")
 for k in range(len(M)):
-    brief("M-%d-bytes" % k, M[:k])
+    each("M-%d-bytes" % k, M[:k], room=8)
 C = M.replace(b"\n", b"\r\n")
 for k in range(len(C)):
-    brief("CRLF-%d-bytes" % k, C[:k])
+    each("CRLF-%d-bytes" % k, C[:k], room=8)
 
 comment("Every start of a text with a longer label, and of one with a full line, from the end of that line on.")
 L = message(b"A-B C", b"Zg==\n")
 for k in range(len(L)):
-    brief("A-B-C-%d-bytes" % k, L[:k])
+    each("A-B-C-%d-bytes" % k, L[:k], room=8)
 T = body(FULL + b"\nZg==\n")
 for k in range(80, len(T)):
-    brief("line-64-4-%d-bytes" % k, T[:k])
+    each("line-64-4-%d-bytes" % k, T[:k], room=8)
 
 comment("M with one byte left out, put twice, or made 0xFF.")
 for k in range(len(M)):
-    brief("M-without-%d" % k, M[:k] + M[k + 1:])
+    each("M-without-%d" % k, M[:k] + M[k + 1:], room=8)
 for k in range(len(M)):
-    brief("M-twice-%d" % k, M[:k + 1] + M[k:])
+    each("M-twice-%d" % k, M[:k + 1] + M[k:], room=8)
 for k in range(len(M)):
-    brief("M-0xFF-at-%d" % k, M[:k] + b"\xff" + M[k + 1:])
+    each("M-0xFF-at-%d" % k, M[:k] + b"\xff" + M[k + 1:], room=8)
 
 comment("Texts cut and joined at random.")
 random.seed(7468)
@@ -255,7 +252,7 @@ for k in range(100):
         i = random.randint(0, len(t))
         j = min(len(t), i + random.choice((0, 0, 1, 1, 2, 5)))
         t = t[:i] + random.choice(PIECES) + t[j:]
-    brief("random-%d" % k, t)
+    each("random-%d" % k, t, room=8)
 
 comment("The examples of draft-josefsson-pkix-textual-00, in their order.")
 drafts = list(examples(sys.argv[1]))

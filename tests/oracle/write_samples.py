@@ -1,6 +1,6 @@
-"""Writes the samples of the write call, standard input of the program write_samples.
+"""Writes the samples of the write call: the second half of the standard input of the program samples.
 
-    python3 write_samples.py DOCUMENT_001 > crates/write_samples/stdin
+    python3 write_samples.py DOCUMENT_001 >> crates/samples/stdin
 """
 import random
 import sys
@@ -26,8 +26,8 @@ def back(name, label, data=b"f", room=300, length=0):
     put("back", name, room, form(label), form(data), length)
 
 
-def trip(name, text, room=1200):
-    put("trip", name, room, form(text), "")
+def restore(name, text, room=1200):
+    put("restore", name, room, form(text), "")
 
 
 def needed(label, n):
@@ -100,26 +100,26 @@ write("order-empty-label-no-data", b"", b"")
 comment("Round trips of texts: strict ones with LF are restored.")
 FULL = "ABCDEFGHIJKLMNOPQRSTUVWXYZabcdefghijklmnopqrstuvwxyz0123456789+/"
 for room in (39, 38, 1200, 0):
-    trip("M", M, room)
-trip("CRLF", M.replace(b"\n", b"\r\n"))
-trip("CR", M.replace(b"\n", b"\r"))
-trip("empty-label", oracle.written(b"", b"f"))
-trip("label-64", oracle.written(b"L" * 64, b"foo"))
-trip("label-A-B-SP-C", oracle.written(b"A-B C", b"fo"))
+    restore("M", M, room)
+restore("CRLF", M.replace(b"\n", b"\r\n"))
+restore("CR", M.replace(b"\n", b"\r"))
+restore("empty-label", oracle.written(b"", b"f"))
+restore("label-64", oracle.written(b"L" * 64, b"foo"))
+restore("label-A-B-SP-C", oracle.written(b"A-B C", b"fo"))
 for n in (47, 48, 49, 96, 97):
-    trip("lines-%d" % n, oracle.written(b"A", bytes(range(n))))
-trip("spare-bits", M.replace(b"Zg", b"Zh"))
-trip("no-last-LF", M[:-1])
-trip("no-data", oracle.written(b"A", b""))
-trip("label-65", oracle.written(b"L" * 65, b"f"))
+    restore("lines-%d" % n, oracle.written(b"A", bytes(range(n))))
+restore("spare-bits", M.replace(b"Zg", b"Zh"))
+restore("no-last-LF", M[:-1])
+restore("no-data", oracle.written(b"A", b""))
+restore("label-65", oracle.written(b"L" * 65, b"f"))
 LONGEST = "-----BEGIN {0}-----$\n{{{1}$}}%s$\n-----END {0}-----$".format("L" * 64, FULL)
-put("trip", "longest", 44535, LONGEST % (FULL[:40] + "//8="), "", count=682)
-put("trip", "longest", 44534, LONGEST % (FULL[:40] + "//8="), "", count=682)
-put("trip", "data-32769", MOST, LONGEST % FULL[:44], "", count=682)
+put("restore", "longest", 44535, LONGEST % (FULL[:40] + "//8="), "", count=682)
+put("restore", "longest", 44534, LONGEST % (FULL[:40] + "//8="), "", count=682)
+put("restore", "data-32769", MOST, LONGEST % FULL[:44], "", count=682)
 
 comment("Round trips of the examples of draft-josefsson-pkix-textual-00, in their order.")
 for name, example in examples(sys.argv[1]):
-    put("trip", name, 1024, "\n" + example, "")
+    put("restore", name, 1024, "\n" + example, "")
 
 comment("Labels and data at random.")
 random.seed(7468)

@@ -1,71 +1,84 @@
-// Runs the library's calls on the texts of standard input, and prints what they answer.
+// Runs the library's calls on the samples of standard input, and prints what they answer.
 //
-// A sample is a mode, a name, the room of the output or the table and a count, each with ':' behind it, and a text. It stands
-// between '@' and the next '@'. For the read call and the label call the mode is "each" (a line for each grammar), "brief"
-// (one line for all three) or a grammar's number. For the index call it is "index" (a line for each grammar), "table" with a
-// grammar's number behind it, or "starts" (one line for every start of the text). "#" is a comment. The text is in the printable
-// form of `support::expand`, the count being that of its braces.
+// A sample stands between '@' and the next '@'. It is a mode, a name, the room of the output or the table and a count, each with
+// ':' behind it, and a text; or, for the write call, a length and a label or a text with ':' behind them too, and data. A mode goes
+// by its first letter:
+//
+//     each      the read call and the label call, a line for each grammar; the number of a grammar: a line for that alone
+//     index     the index call, a line for each grammar; "table" and the number of a grammar: a line for that alone
+//     starts    the index call, a line for each grammar, of every start of the text
+//     write     label and data are written
+//     back      the same, and what was written is read under each grammar
+//     restore   a text is read under strict, its label and data are written, and what was written is read under each grammar
+//     #         a comment
+//
+// Label, text and data are in the printable form of `support::expand`, the count being that of their braces; behind the data stand
+// as many made bytes as the length says.
+//
+// Each call is lent a buffer of its own. Buffers that were handed down would be followed through every function by the proofs,
+// whose cost goes by what a function holds.
 mod bundle;
 mod call;
+mod made;
+mod message;
+mod written;
 
 use libc::STDIN_FILENO;
 use support::bytes;
 use support::expand;
 use support::fields;
-use support::table;
 
+// Room for all samples.
+const FORMS_SIZE: usize = 131072;
+
+// One byte more than is read.
 const TEXT_SIZE: usize = 65537;
 
-const OUT_SIZE: usize = 49152;
-
-fn run(mode: &[u8], name: &[u8], text: &[u8], out: &mut [u8], table: &mut [u32]) {
-    match bytes::get(mode, 0) {
-        b'#' => (),
-        b'e' => call::read_each(name, text, out),
-        b'b' => call::outcomes(name, text, out),
-        b'i' => bundle::index_each(name, text, table),
-        b's' => bundle::starts(name, text, table),
-        b't' => bundle::index(name, text, fields::number(mode), table),
-        _ => call::read(name, text, fields::number(mode), out),
+fn run(form: &[u8], text: &[u8]) {
+    let name = fields::field(form, 1);
+    let room = fields::number(form, 2) as usize;
+    match bytes::get(form, 0) {
+        b'e' => message::each(name, text, room),
+        b'i' => bundle::each(name, text, room),
+        b's' => bundle::starts(name, text, room),
+        b't' => bundle::line(name, text, fields::number(form, 0), room),
+        _ => message::line(name, text, fields::number(form, 0), room),
     }
 }
 
+fn text_sample(form: &[u8]) {
+    let mut text = [0u8; TEXT_SIZE];
+    let length = expand::expand(fields::rest(form, 4), fields::number(form, 3), &mut text);
+    run(form, bytes::part(&text, 0, length));
+}
+
 // One sample, without its first '@'.
-fn sample(form: &[u8], text: &mut [u8], out: &mut [u8], table: &mut [u32]) {
-    let times = fields::number(fields::field(form, 3));
-    let length = expand::expand(fields::rest(form, 4), times, text);
-    let lent = fields::number(fields::field(form, 2)) as usize;
-    run(
-        fields::field(form, 0),
-        fields::field(form, 1),
-        bytes::part(text, 0, length),
-        bytes::first(out, lent),
-        table::first(table, lent),
-    );
+fn sample(form: &[u8]) {
+    match bytes::get(form, 0) {
+        b'#' => (),
+        b'w' | b'b' | b'r' => written::sample(form),
+        _ => text_sample(form),
+    }
 }
 
 // The sample whose '@' stands at `i`, if one does.
-fn sample_at(forms: &[u8], i: usize, text: &mut [u8], out: &mut [u8], table: &mut [u32]) {
+fn sample_at(forms: &[u8], i: usize) {
     if bytes::get(forms, i) == b'@' {
         let start = fields::behind(forms, i, b'@');
-        let end = fields::behind(forms, start, b'@');
-        sample(bytes::part(forms, start, end), text, out, table);
+        sample(bytes::part(forms, start, fields::behind(forms, start, b'@')));
     }
 }
 
 fn samples(forms: &[u8]) {
-    let mut text = [0u8; TEXT_SIZE];
-    let mut out = [0u8; OUT_SIZE];
-    let mut table = [0u32; table::SIZE];
     let mut i = 0;
     while i < forms.len() {
-        sample_at(forms, i, &mut text, &mut out, &mut table);
+        sample_at(forms, i);
         i += 1;
     }
 }
 
 fn main() {
-    let mut forms = io::large_buffer();
+    let mut forms = [0u8; FORMS_SIZE];
     let n = io::read_full(STDIN_FILENO, &mut forms);
     samples(&forms[..n]);
 }

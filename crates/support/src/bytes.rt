@@ -1,5 +1,8 @@
 // Bytes and parts of slices, at any index: what lies outside is zero to read, and left out to write.
 
+// What each byte of an output is before a call.
+const STALE: u8 = 0xFF;
+
 pub fn get(bytes: &[u8], at: usize) -> u8 {
     if at < bytes.len() { bytes[at] } else { 0 }
 }
@@ -13,10 +16,10 @@ pub fn put(bytes: &mut [u8], at: usize, byte: u8) -> usize {
     at
 }
 
-pub fn fill(bytes: &mut [u8], byte: u8) {
+pub fn unset(bytes: &mut [u8]) {
     let mut i = 0;
     while i < bytes.len() {
-        put(bytes, i, byte);
+        bytes[i] = STALE;
         i += 1;
     }
 }

@@ -43,7 +43,7 @@ pub fn rest(form: &[u8], k: usize) -> &[u8] {
 }
 
 // The number that the digits of a word spell.
-pub fn number(word: &[u8]) -> u32 {
+fn spelled(word: &[u8]) -> u32 {
     let mut value: u64 = 0;
     let mut i = 0;
     while i < word.len() {
@@ -53,4 +53,9 @@ pub fn number(word: &[u8]) -> u32 {
         i += 1;
     }
     value as u32
+}
+
+// The number that the digits of a field spell.
+pub fn number(form: &[u8], k: usize) -> u32 {
+    spelled(field(form, k))
 }

@@ -1,5 +1,9 @@
 // What a line is made of. Each part but the name has a space before it.
 ghost use Prim.Native.Nat.{_≤_};
+use crate::bytes;
+use crate::lent;
+use crate::lent::Answer;
+use crate::table;
 use libc::STDOUT_FILENO;
 
 // The most bytes of data that are printed one by one, and the most of a text.
@@ -25,13 +29,26 @@ pub fn number(n: u64) {
     io::print_decimal(STDOUT_FILENO, n);
 }
 
-pub fn numbers(report: &[u64; 8]) {
+fn numbers(report: &[u64; 8]) {
     for i in 0usize..8 {
         number(report[i]);
     }
 }
 
-pub fn either(first: bool, one: &[u8], other: &[u8]) {
+// The number and the report of an answer.
+pub fn answer(answer: Answer) {
+    let report = answer.report;
+    number(answer.number as u64);
+    numbers(&report);
+}
+
+// The grammar of a call, and the room that it was lent.
+pub fn lent(grammar: u32, room: usize) {
+    self::grammar(grammar);
+    number(room as u64);
+}
+
+fn either(first: bool, one: &[u8], other: &[u8]) {
     if first {
         word(one);
     } else {
@@ -42,6 +59,10 @@ pub fn either(first: bool, one: &[u8], other: &[u8]) {
 // Whether all behind a result is zero.
 pub fn clean(zero: bool) {
     either(zero, b" clean", b" dirty");
+}
+
+pub fn end_line() {
+    word(b"\n");
 }
 
 pub fn wide(x: u8) -> u64
@@ -86,6 +107,27 @@ pub fn data(bytes: &[u8]) {
     }
 }
 
+// The data at the start of an output, and whether all behind it is zero.
+pub fn output(out: &[u8], size: usize) {
+    data(bytes::part(out, 0, size));
+    clean(bytes::zero_from(out, size));
+}
+
+fn entries(table: &[u32], count: usize) {
+    let mut i = 0;
+    while i < count {
+        number(table::get(table, i) as u64);
+        i += 1;
+    }
+}
+
+// The numbers at the start of a table, and whether all behind them are zero.
+pub fn table(table: &[u32], size: usize) {
+    word(b" table");
+    entries(table, size);
+    clean(table::zero_from(table, size));
+}
+
 fn letter(c: u8) {
     let one = [c];
     either(c == b'\n', b"$", &one);
@@ -116,4 +158,16 @@ pub fn grammar(number: u32) {
         3 => word(b" strict"),
         _ => self::number(number as u64),
     }
+}
+
+// Name and room; what the write call answers; the text, and whether all behind it is zero.
+pub fn written(name: &[u8], out: &[u8], answer: Answer) {
+    let size = lent::filled(answer);
+    self::name(name);
+    word(b" write");
+    number(out.len() as u64);
+    self::answer(answer);
+    text(bytes::part(out, 0, size));
+    clean(bytes::zero_from(out, size));
+    end_line();
 }

@@ -1,22 +1,19 @@
-// Numbers and parts of lent tables, at any index: what lies outside is zero to read, and left out to write.
+// Numbers and parts of lent tables, at any index: what lies outside is zero.
 
 // 1 + 5 * 2184 numbers: a text of 65,536 bytes has at most 2184 messages, each of 30 bytes or more.
 pub const SIZE: usize = 10921;
+
+// What each number of a table is before a call.
+const STALE: u32 = 0xFFFFFFFF;
 
 pub fn get(table: &[u32], at: usize) -> u32 {
     if at < table.len() { table[at] } else { 0 }
 }
 
-fn put(table: &mut [u32], at: usize, number: u32) {
-    if at < table.len() {
-        table[at] = number;
-    }
-}
-
-pub fn fill(table: &mut [u32], number: u32) {
+pub fn unset(table: &mut [u32]) {
     let mut i = 0;
     while i < table.len() {
-        put(table, i, number);
+        table[i] = STALE;
         i += 1;
     }
 }

@@ -1,5 +1,4 @@
--- `samples::samples` is safe and ends: each byte read is there, and the three buffers keep their length. Assumes nothing.
-use mathlib.Core.Path.{_≡_}
+-- `samples::samples` is safe and ends. Assumes nothing.
 use lib.ListN.{length}
 use Prim.Native.Nat.{_≤_, _-_}
 use borrow.Author.Needs.{needs}
@@ -7,22 +6,13 @@ use Rattle.samples.proofs.samples.Statement.{statement}
 use Rattle.samples.proofs.samples.Tie as tie
 
 abbrev Inv-loop : tie.InvT-loop
-Inv-loop forms text₀ out₀ table₀ i₀ text out table i = (i ≤ length forms) × (length text ≡ 65537) × (length out ≡ 49152) × (length table ≡ 10921)
+Inv-loop forms i₀ i = i ≤ length forms
 
 abbrev μ-loop : tie.MeasureT-loop
-μ-loop forms text₀ out₀ table₀ i₀ text out table i = length forms - i
+μ-loop forms i₀ i = length forms - i
 
 loop-holds : tie.Need-loop-holds Inv-loop μ-loop
 loop-holds c = search needs
-
-slice-aggregate-sample-at : tie.Need-slice-aggregate-sample-at Inv-loop μ-loop
-slice-aggregate-sample-at c = search needs
-
-slice-aggregate-sample-at-2 : tie.Need-slice-aggregate-sample-at-2 Inv-loop μ-loop
-slice-aggregate-sample-at-2 c = search needs
-
-slice-aggregate-sample-at-3 : tie.Need-slice-aggregate-sample-at-3 Inv-loop μ-loop
-slice-aggregate-sample-at-3 c = search needs
 
 sample-at-requires : tie.Need-sample-at-requires Inv-loop μ-loop
 sample-at-requires c κs = search needs
@@ -42,15 +32,4 @@ returns c = search needs
 pub samples-spec : {M : Type 1} → statement M
 samples-spec =
     tie.close
-    (tie.spec
-    Inv-loop
-    μ-loop
-    loop-holds
-    slice-aggregate-sample-at
-    slice-aggregate-sample-at-2
-    slice-aggregate-sample-at-3
-    sample-at-requires
-    add-i
-    loop-less
-    loop-again
-    returns)
+    (tie.spec Inv-loop μ-loop loop-holds sample-at-requires add-i loop-less loop-again returns)

@@ -1,5 +1,4 @@
--- `samples::bundle::starts` is safe and ends: what is left of the text falls, and the table keeps its length. Assumes nothing.
-use mathlib.Core.Path.{_≡_}
+-- `samples::bundle::starts` is safe and ends: what is left of the text falls. Assumes nothing.
 use lib.ListN.{length}
 use Prim.Native.Nat.{_≤_, _+_, _-_}
 use borrow.Author.Needs.{needs}
@@ -7,16 +6,19 @@ use Rattle.samples.proofs.bundle.starts.Statement.{statement}
 use Rattle.samples.proofs.bundle.starts.Tie as tie
 
 abbrev Inv-loop : tie.InvT-loop
-Inv-loop name text lent₀ count₀ lent count = (count ≤ length text + 1) × (length lent ≡ length lent₀)
+Inv-loop name text room count₀ count = count ≤ length text + 1
 
 abbrev μ-loop : tie.MeasureT-loop
-μ-loop name text lent₀ count₀ lent count = (length text + 1) - count
+μ-loop name text room count₀ count = (length text + 1) - count
 
 loop-holds : tie.Need-loop-holds Inv-loop μ-loop
 loop-holds c = search needs
 
-outcomes-requires : tie.Need-outcomes-requires Inv-loop μ-loop
-outcomes-requires c κs = search needs
+part-requires : tie.Need-part-requires Inv-loop μ-loop
+part-requires c κs = search needs
+
+each-requires : tie.Need-each-requires Inv-loop μ-loop
+each-requires c κs = search needs
 
 add-count : tie.Need-add-count Inv-loop μ-loop
 add-count c = search needs
@@ -26,9 +28,6 @@ loop-less c = search needs
 
 loop-again : tie.Need-loop-again Inv-loop μ-loop
 loop-again c = search needs
-
-same-length : tie.Need-same-length Inv-loop μ-loop
-same-length c = search needs
 
 returns : tie.Need-returns Inv-loop μ-loop
 returns c = search needs
@@ -40,9 +39,9 @@ starts-spec =
     Inv-loop
     μ-loop
     loop-holds
-    outcomes-requires
+    part-requires
+    each-requires
     add-count
     loop-less
     loop-again
-    same-length
     returns)

@@ -1,22 +1,22 @@
--- `support::table::fill` is safe and ends: the slice keeps its length. Assumes nothing.
+-- `support::bytes::unset` is safe and ends: the slice keeps its length. Assumes nothing.
 use mathlib.Core.Path.{_≡_}
-use lib.ListN.{length}
+use lib.ListN.{length, length-set}
 use Prim.Native.Nat.{_≤_, _-_}
 use borrow.Author.Needs.{needs}
-use Rattle.support.proofs.table.fill.Statement.{statement}
-use Rattle.support.proofs.table.fill.Tie as tie
+use Rattle.support.proofs.bytes.unset.Statement.{statement}
+use Rattle.support.proofs.bytes.unset.Tie as tie
 
 abbrev Inv-loop : tie.InvT-loop
-Inv-loop table₀ number i₀ table i = (i ≤ length table) × (length table ≡ length table₀)
+Inv-loop bytes₀ i₀ bytes i = (i ≤ length bytes) × (length bytes ≡ length bytes₀)
 
 abbrev μ-loop : tie.MeasureT-loop
-μ-loop table₀ number i₀ table i = length table₀ - i
+μ-loop bytes₀ i₀ bytes i = length bytes₀ - i
 
 loop-holds : tie.Need-loop-holds Inv-loop μ-loop
 loop-holds c = search needs
 
-put-requires : tie.Need-put-requires Inv-loop μ-loop
-put-requires c κs = search needs
+slice-write-bytes : tie.Need-slice-write-bytes Inv-loop μ-loop
+slice-write-bytes c = search needs
 
 add-i : tie.Need-add-i Inv-loop μ-loop
 add-i c = search needs
@@ -25,7 +25,7 @@ loop-less : tie.Need-loop-less Inv-loop μ-loop
 loop-less c = search needs
 
 loop-again : tie.Need-loop-again Inv-loop μ-loop
-loop-again c = search needs
+loop-again c = simp length-set (search needs)
 
 same-length : tie.Need-same-length Inv-loop μ-loop
 same-length c = search needs
@@ -33,14 +33,14 @@ same-length c = search needs
 returns : tie.Need-returns Inv-loop μ-loop
 returns c = search needs
 
-pub fill-spec : {M : Type 1} → statement M
-fill-spec =
+pub unset-spec : {M : Type 1} → statement M
+unset-spec =
     tie.close
     (tie.spec
     Inv-loop
     μ-loop
     loop-holds
-    put-requires
+    slice-write-bytes
     add-i
     loop-less
     loop-again

@@ -1,11 +1,11 @@
--- `support::fields::number` is safe and ends: the value stays below 2 to the 32. Assumes nothing.
+-- `support::fields::spelled` is safe and ends: the value stays below 2 to the 32. Assumes nothing.
 use mathlib.Core.Logic.{⊎-elim}
 use native.Mathlib.Omega.{arith}
 use lib.ListN.{length}
 use Prim.Native.Nat.{_≤_, _<_, _-_, _^_}
 use borrow.Author.Needs.{needs}
-use Rattle.support.proofs.fields.number.Statement.{statement}
-use Rattle.support.proofs.fields.number.Tie as tie
+use Rattle.support.proofs.fields.spelled.Statement.{statement}
+use Rattle.support.proofs.fields.spelled.Tie as tie
 
 abbrev Inv-loop : tie.InvT-loop
 Inv-loop word value₀ i₀ value i = (i ≤ length word) × (value < 2 ^ 32)
@@ -46,8 +46,8 @@ cast-result c = search needs
 returns : tie.Need-returns Inv-loop μ-loop
 returns c = search needs
 
-pub number-spec : {M : Type 1} → statement M
-number-spec =
+pub spelled-spec : {M : Type 1} → statement M
+spelled-spec =
     tie.close
     (tie.spec
     Inv-loop

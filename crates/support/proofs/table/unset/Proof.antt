@@ -1,22 +1,25 @@
--- `support::bytes::fill` is safe and ends: the slice keeps its length. Assumes nothing.
+-- `support::table::unset` is safe and ends: the slice keeps its length. Assumes nothing.
 use mathlib.Core.Path.{_≡_}
-use lib.ListN.{length}
+use lib.ListN.{length, length-set}
 use Prim.Native.Nat.{_≤_, _-_}
 use borrow.Author.Needs.{needs}
-use Rattle.support.proofs.bytes.fill.Statement.{statement}
-use Rattle.support.proofs.bytes.fill.Tie as tie
+use Rattle.support.proofs.table.unset.Statement.{statement}
+use Rattle.support.proofs.table.unset.Tie as tie
 
 abbrev Inv-loop : tie.InvT-loop
-Inv-loop bytes₀ byte i₀ bytes i = (i ≤ length bytes) × (length bytes ≡ length bytes₀)
+Inv-loop table₀ i₀ table i = (i ≤ length table) × (length table ≡ length table₀)
 
 abbrev μ-loop : tie.MeasureT-loop
-μ-loop bytes₀ byte i₀ bytes i = length bytes₀ - i
+μ-loop table₀ i₀ table i = length table₀ - i
 
 loop-holds : tie.Need-loop-holds Inv-loop μ-loop
 loop-holds c = search needs
 
-put-requires : tie.Need-put-requires Inv-loop μ-loop
-put-requires c κs = search needs
+mul-table : tie.Need-mul-table Inv-loop μ-loop
+mul-table c = search needs
+
+slice-write-table : tie.Need-slice-write-table Inv-loop μ-loop
+slice-write-table c = search needs
 
 add-i : tie.Need-add-i Inv-loop μ-loop
 add-i c = search needs
@@ -25,7 +28,7 @@ loop-less : tie.Need-loop-less Inv-loop μ-loop
 loop-less c = search needs
 
 loop-again : tie.Need-loop-again Inv-loop μ-loop
-loop-again c = search needs
+loop-again c = simp length-set (search needs)
 
 same-length : tie.Need-same-length Inv-loop μ-loop
 same-length c = search needs
@@ -33,14 +36,15 @@ same-length c = search needs
 returns : tie.Need-returns Inv-loop μ-loop
 returns c = search needs
 
-pub fill-spec : {M : Type 1} → statement M
-fill-spec =
+pub unset-spec : {M : Type 1} → statement M
+unset-spec =
     tie.close
     (tie.spec
     Inv-loop
     μ-loop
     loop-holds
-    put-requires
+    mul-table
+    slice-write-table
     add-i
     loop-less
     loop-again

@@ -1,10 +1,10 @@
--- `write_samples::made::make` is safe and ends: the value stays a byte, and the buffer keeps its length. Assumes nothing.
+-- `samples::made::make` is safe and ends: the value stays a byte, and the buffer keeps its length. Assumes nothing.
 use mathlib.Core.Path.{_≡_}
 use lib.ListN.{length}
 use Prim.Native.Nat.{_<_, _-_}
 use borrow.Author.Needs.{needs}
-use Rattle.write_samples.proofs.made.make.Statement.{statement}
-use Rattle.write_samples.proofs.made.make.Tie as tie
+use Rattle.samples.proofs.made.make.Statement.{statement}
+use Rattle.samples.proofs.made.make.Tie as tie
 
 abbrev Inv-loop : tie.InvT-loop
 Inv-loop bytes₀ at count next₀ value₀ i₀ bytes next value i = (length bytes ≡ length bytes₀) × (value < 256)
