@@ -1,9 +1,10 @@
--- The alphabet characters and the pads of a body, part by part. Under strict their numbers always fit. Assumes nothing.
+-- The alphabet characters and the pads of a body, part by part. Under lax there are at most two pads; under strict the numbers
+-- always fit. Assumes nothing.
 use mathlib.Core.Path.{_≡_, refl, ap}
 use mathlib.Core.Logic.{_≢_, inl, inr}
 use mathlib.Core.Bool.{Bool, true, false, cond}
 use mathlib.Core.List.{List, [], _∷_, _++_}
-use Prim.Native.Nat.{ℕ, zero, suc, _+_, _%_}
+use Prim.Native.Nat.{ℕ, zero, suc, _+_, _%_, _≤_}
 use native.Mathlib.Omega.{arith}
 use lib.Dec.{eqb, ltb}
 use lib.ListN.{length, replicate, length-append}
@@ -12,10 +13,10 @@ use Rattle.base64.specs.Lists.{All}
 use Rattle.base64.specs.Alphabet.{AlphabetChar, alphabet, placeIn, valueOf, radix, pad}
 use Rattle.base64.specs.Groups.{CountsFit}
 use Rattle.base64.proofs.Groups.{counts-mod}
-use Rattle.grammar.specs.Marks.{LineEnd, crlf, cr, lf}
-use Rattle.grammar.specs.Grammars.{Groups, StrictLines, StrictBody}
+use Rattle.grammar.specs.Marks.{White, LineEnd, crlf, cr, lf}
+use Rattle.grammar.specs.Grammars.{Mixed, LaxPads, LaxBody, Groups, StrictLines, StrictBody}
 use Rattle.grammar.specs.Message.{characters, padCount}
-use Rattle.grammar.proofs.Marks.{pad-no-alphabet}
+use Rattle.grammar.proofs.Marks.{pad-no-alphabet, white-no-pad}
 
 -- ---- of lists joined
 
@@ -59,10 +60,14 @@ characters-all (c ∷ l) = go (ltb (valueOf c) radix) refl (characters-all l)
 alphabet-no-pad : (c : ℕ) → AlphabetChar c → c ≢ pad
 alphabet-no-pad c h e = pad-no-alphabet (rw e at h)
 
-pub pads-alphabet : (a : List ℕ) → All AlphabetChar a → padCount a ≡ 0
+-- A list of a kind that the pad is not of has none.
+pads-none : (P : ℕ → Type 0) → ((c : ℕ) → P c → c ≢ pad) → (l : List ℕ) → All P l → padCount l ≡ 0
 unfolding padCount
-pads-alphabet [] h = refl
-pads-alphabet (c ∷ a) h = rw (ne-eqb c pad (alphabet-no-pad c (h .0))) (pads-alphabet a (h .1))
+pads-none P f [] h = refl
+pads-none P f (c ∷ l) h = rw (ne-eqb c pad (f c (h .0))) (pads-none P f l (h .1))
+
+pub pads-alphabet : (a : List ℕ) → All AlphabetChar a → padCount a ≡ 0
+pads-alphabet = pads-none AlphabetChar alphabet-no-pad
 
 pub end-counts : {e rest : List ℕ} → LineEnd e rest → (characters e ≡ []) × (padCount e ≡ 0)
 unfolding characters padCount valueOf placeIn alphabet
@@ -79,6 +84,21 @@ pub pads-pads : (p : ℕ) → padCount (replicate p pad) ≡ p
 unfolding padCount
 pads-pads zero = refl
 pads-pads (suc p) = ap suc (pads-pads p)
+
+-- ---- at most two pads under lax
+
+mixed-no-pad : (c : ℕ) → Mixed c → c ≢ pad
+mixed-no-pad c (inl h) = white-no-pad c h
+mixed-no-pad c (inr h) = alphabet-no-pad c h
+
+lax-pads : {p : List ℕ} → LaxPads p → padCount p ≤ 2
+unfolding padCount
+lax-pads LaxPads.none = omega arith
+lax-pads (LaxPads.one w h) = omega (arith, pads-none White white-no-pad w h)
+lax-pads (LaxPads.two v w h k) = omega (arith, pads-append v (pad ∷ w), pads-none White white-no-pad v h, pads-none White white-no-pad w k)
+
+pub lax-body-pads : {b : List ℕ} → LaxBody b → padCount b ≤ 2
+lax-body-pads (LaxBody.lax m p hm hp) = omega (arith, pads-append m p, pads-none Mixed mixed-no-pad m hm, lax-pads hp)
 
 -- ---- numbers that fit
 

@@ -1,17 +1,36 @@
 -- The bodies: a strict body is a standard body, a standard body is a lax body, and no body holds a hyphen. One line end is no
--- standard body, and no line of a strict body is over 64 characters. Assumes nothing.
+-- standard body, an empty final line is one, a strict body has a group at least, and no line of it is over 64 characters.
+-- Assumes nothing.
 use mathlib.Core.Path.{_≡_, refl, sym, _∙_, subst, ap}
 use mathlib.Core.Logic.{_≢_, inl, inr}
 use mathlib.Core.List.{List, [], _∷_, _++_, append-assoc, append-nil, head-eq-of-cons-eq, tail-eq-of-cons-eq, cons≢nil}
 use Prim.Native.Nat.{ℕ, zero, suc, _*_, _≤_, _<_}
 use native.Mathlib.Omega.{arith}
-use lib.ListN.{length, replicate}
+use lib.ListN.{length, replicate, length-append}
 use Rattle.base64.specs.Lists.{All}
 use Rattle.base64.specs.Alphabet.{AlphabetChar, pad}
 use Rattle.base64.proofs.Lists.{all-append, all-imp}
-use Rattle.grammar.specs.Marks.{Blank, White, LineEnd, crlf, cr, lf}
+use Rattle.grammar.specs.Marks.{LF, Blank, White, LineEnd, crlf, cr, lf}
 use Rattle.grammar.specs.Grammars.{Mixed, LaxPads, LaxBody, FinalLine, StandardLines, BlankLines, StandardBody, StandardAfter, lineChars, Groups, StrictLines, StrictBody}
 use Rattle.grammar.proofs.Marks.{NoHyphen, white-no-hyphen, alphabet-no-hyphen, pad-no-hyphen, blanks-white, end-white, end-some, end-head, end-lf, end-no-alphabet, blank-no-end}
+
+-- ---- the shortest final line of standard is empty; one of strict has a group
+
+pub empty-final-line : FinalLine (LF ∷ [])
+empty-final-line = FinalLine.final [] 0 [] (LF ∷ []) tt (omega arith) tt lf
+
+groups-long : {n : ℕ} {g : List ℕ} → Groups n g → 4 ≤ length g
+groups-long (Groups.four ha hb hc hd) = omega arith
+groups-long (Groups.three ha hb hc) = omega arith
+groups-long (Groups.two ha hb) = omega arith
+groups-long (Groups.more ha hb hc hd g) = omega arith
+
+strict-lines-long : {l : List ℕ} → StrictLines l → 4 ≤ length l
+strict-lines-long (StrictLines.final n g e hg hn he) = omega (arith, groups-long hg, length-append g e)
+strict-lines-long (StrictLines.line a e rest ha full he l) = omega (arith, full, length-append a (e ++ rest))
+
+pub strict-body-long : {b : List ℕ} → StrictBody b → 4 ≤ length b
+strict-body-long (StrictBody.strict e rest he l) = omega (arith, strict-lines-long l, length-append e rest)
 
 -- ---- no hyphen in a lax body
 

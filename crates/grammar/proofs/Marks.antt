@@ -3,13 +3,13 @@
 use mathlib.Core.Path.{_≡_, refl, sym, _∙_, subst, ap}
 use mathlib.Core.Logic.{_≢_, _⊎_, inl, inr}
 use mathlib.Core.List.{List, [], _∷_, _++_, head-eq-of-cons-eq, tail-eq-of-cons-eq, cons≢nil}
-use Prim.Native.Nat.{ℕ}
+use Prim.Native.Nat.{ℕ, _<_}
 use native.Mathlib.Omega.{arith}
 use Rattle.base64.specs.Lists.{All}
 use Rattle.base64.specs.Alphabet.{AlphabetChar, alphabet, placeIn, valueOf, pad}
 use Rattle.base64.proofs.Alphabet.{pad-outside}
 use Rattle.base64.proofs.Lists.{all-imp}
-use Rattle.grammar.specs.Marks.{CR, LF, hyphen, Blank, White, LineEnd, crlf, cr, lf, LabelChar, Separator, LabelChars, last, next, separated, Label, empty, chars}
+use Rattle.grammar.specs.Marks.{CR, LF, SP, hyphen, Blank, White, LineEnd, crlf, cr, lf, LabelChar, Separator, LabelChars, last, next, separated, Label, empty, chars}
 
 -- ---- what is no alphabet character
 
@@ -30,13 +30,20 @@ end-no-alphabet (inr e) = outside refl e
 abbrev pub NoHyphen : ℕ → Type 0
 NoHyphen c = c ≢ hyphen
 
+-- White is no mark above CR but SP.
+white-no-mark : (mark : ℕ) → CR < mark → mark ≢ SP → (c : ℕ) → White c → c ≢ mark
+white-no-mark mark high no-space c (inl (inl h)) e = omega arith
+white-no-mark mark high no-space c (inl (inr h)) e = no-space (sym e ∙ h)
+white-no-mark mark high no-space c (inr (inl h)) e = omega arith
+white-no-mark mark high no-space c (inr (inr (inl h))) e = omega arith
+white-no-mark mark high no-space c (inr (inr (inr (inl h)))) e = omega arith
+white-no-mark mark high no-space c (inr (inr (inr (inr h)))) e = omega arith
+
 pub white-no-hyphen : (c : ℕ) → White c → NoHyphen c
-white-no-hyphen c (inl (inl h)) e = omega arith
-white-no-hyphen c (inl (inr h)) e = omega arith
-white-no-hyphen c (inr (inl h)) e = omega arith
-white-no-hyphen c (inr (inr (inl h))) e = omega arith
-white-no-hyphen c (inr (inr (inr (inl h)))) e = omega arith
-white-no-hyphen c (inr (inr (inr (inr h)))) e = omega arith
+white-no-hyphen = white-no-mark hyphen (omega arith) (λ e. omega arith)
+
+pub white-no-pad : (c : ℕ) → White c → c ≢ pad
+white-no-pad = white-no-mark pad (omega arith) (λ e. omega arith)
 
 pub alphabet-no-hyphen : (c : ℕ) → AlphabetChar c → NoHyphen c
 unfolding valueOf placeIn alphabet
@@ -81,6 +88,9 @@ blank-no-end (inr h) (inl e) = omega arith
 blank-no-end (inr h) (inr e) = omega arith
 
 -- ---- labels
+
+pub empty-label : Label []
+empty-label = empty
 
 chars-head : {l : List ℕ} → LabelChars l → (z : List ℕ) {c : ℕ} {y : List ℕ} → l ++ z ≡ c ∷ y → LabelChar c
 chars-head (last h) z e = subst LabelChar (head-eq-of-cons-eq e) h

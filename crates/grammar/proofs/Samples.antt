@@ -10,15 +10,16 @@ use lib.ListN.{drop, replicate}
 use Rattle.base64.specs.Lists.{All}
 use Rattle.base64.specs.Alphabet.{AlphabetChar, alphabet, placeIn, valueOf}
 use Rattle.grammar.specs.Marks.{hyphens, begin, end, White, lf, LabelChars, Label}
-use Rattle.grammar.specs.Grammars.{StandardAfter, Groups, StrictLines, StrictBody, Before, Body, After}
+use Rattle.grammar.specs.Grammars.{StandardLines, BlankLines, StandardBody, StandardAfter, Groups, StrictLines, StrictBody, Before, Body, After}
 use Rattle.grammar.specs.Message.{Reading, textOf, Shape, Consistent, dataOf, Message, characters, padCount}
 use Rattle.grammar.specs.Bundle.{joinedText, Shapes, Bundle}
-use Rattle.grammar.specs.Samples.{BundleRefused, Samples, beginA, endB, beginAB, endAB, around, M, unendedM, itemA}
+use Rattle.grammar.specs.Samples.{BundleRefused, Samples, beginA, endB, beginAB, endAB, beginEmpty, endEmpty, around, M, unendedM, itemA}
 use Rattle.grammar.specs.declared.Grammar.{Grammar}
 use Rattle.grammar.specs.declared.Grammar.the-variants.{Lax, Standard, Strict}
 use Rattle.grammar.proofs.Runs.{run-unique}
-use Rattle.grammar.proofs.Marks.{end-some, label-unique}
-use Rattle.grammar.proofs.Grammars.{strict-body-standard, standard-body-lax, strict-body-short}
+use Rattle.grammar.proofs.Marks.{empty-label, end-some, label-unique}
+use Rattle.grammar.proofs.Grammars.{empty-final-line, strict-body-long, strict-body-standard, standard-body-lax, strict-body-short}
+use Rattle.grammar.proofs.Counts.{lax-body-pads}
 use Rattle.grammar.proofs.Message.{strict-standard, shape-widens, shape-lax, consistent-widens, no-white-hyphen, text-then, reading-unique}
 use Rattle.grammar.proofs.Bundle.{strict-bundle, readings-unique}
 
@@ -137,6 +138,38 @@ hyphen-label =
     record { before = refl; openingLabel = label; body = M-strict-body; closingLabel = label; after = lf }
     record { labels = refl; counts = inr (inl (refl, refl)); spare = refl }
 
+-- ---- an empty label
+
+unlabelled : Message Strict (beginEmpty ++ (M-body ++ (endEmpty ++ (10 ∷ [])))) [] (102 ∷ [])
+unfolding valueOf placeIn alphabet characters padCount
+unlabelled =
+    message Strict
+    record { before = []; openingLabel = []; body = M-body; closingLabel = []; after = 10 ∷ [] }
+    record { before = refl; openingLabel = empty-label; body = M-strict-body; closingLabel = empty-label; after = lf }
+    record { labels = refl; counts = inr (inl (refl, refl)); spare = refl }
+
+-- ---- an empty line, and nothing else: standard has it as the final line, strict has none such
+
+empty-body : StandardBody (10 ∷ 10 ∷ [])
+empty-body = StandardBody.standard [] (10 ∷ []) (10 ∷ []) tt lf (BlankLines.lines (StandardLines.final empty-final-line))
+
+empty-line : Message Standard (around (10 ∷ 10 ∷ [])) (65 ∷ []) []
+unfolding valueOf placeIn alphabet characters padCount
+empty-line =
+    message Standard (closed (10 ∷ 10 ∷ [])) (closed-shape Standard (10 ∷ 10 ∷ []) empty-body)
+    record { labels = refl; counts = inl (refl, refl); spare = tt }
+
+empty-line-strict : (label content : List ℕ) → ¬ Message Strict (around (10 ∷ 10 ∷ [])) label content
+empty-line-strict =
+    unmet Strict Standard (closed (10 ∷ 10 ∷ [])) (closed-shape Standard (10 ∷ 10 ∷ []) empty-body)
+    (λ s c. omega (arith, strict-body-long (s .body)))
+
+-- ---- three pads
+
+third-pad : ¬ Body Lax (10 ∷ 90 ∷ 103 ∷ 61 ∷ 61 ∷ 61 ∷ 10 ∷ [])
+unfolding padCount
+third-pad h = omega (arith, lax-body-pads h)
+
 -- ---- full lines
 
 letter-A : AlphabetChar 65
@@ -249,6 +282,10 @@ samples = record {
   spareBits = Zh-strict;
   labelsDiffer = B-lax;
   hyphenLabel = hyphen-label;
+  emptyLabel = unlabelled;
+  emptyLine = empty-line;
+  emptyLineStrict = empty-line-strict;
+  thirdPad = third-pad;
   fullLine = full-line;
   fullLastLine = full-last-line;
   longLine = long-line;

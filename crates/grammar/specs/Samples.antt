@@ -3,6 +3,7 @@
 use mathlib.Core.List.{List, [], _∷_, _++_}
 use Prim.Native.Nat.{ℕ}
 use lib.ListN.{replicate}
+use Rattle.grammar.specs.Grammars.{Body}
 use Rattle.grammar.specs.Message.{Message}
 use Rattle.grammar.specs.Bundle.{Item, Bundle}
 use Rattle.grammar.specs.declared.Grammar.{Grammar}
@@ -24,6 +25,13 @@ beginAB = 45 ∷ 45 ∷ 45 ∷ 45 ∷ 45 ∷ 66 ∷ 69 ∷ 71 ∷ 73 ∷ 78 ∷ 
 
 abbrev pub endAB : List ℕ
 endAB = 45 ∷ 45 ∷ 45 ∷ 45 ∷ 45 ∷ 69 ∷ 78 ∷ 68 ∷ 32 ∷ 65 ∷ 45 ∷ 66 ∷ 45 ∷ 45 ∷ 45 ∷ 45 ∷ 45 ∷ []
+
+-- "-----BEGIN -----" and "-----END -----".
+abbrev pub beginEmpty : List ℕ
+beginEmpty = 45 ∷ 45 ∷ 45 ∷ 45 ∷ 45 ∷ 66 ∷ 69 ∷ 71 ∷ 73 ∷ 78 ∷ 32 ∷ 45 ∷ 45 ∷ 45 ∷ 45 ∷ 45 ∷ []
+
+abbrev pub endEmpty : List ℕ
+endEmpty = 45 ∷ 45 ∷ 45 ∷ 45 ∷ 45 ∷ 69 ∷ 78 ∷ 68 ∷ 32 ∷ 45 ∷ 45 ∷ 45 ∷ 45 ∷ 45 ∷ []
 
 -- M with something else between its boundaries.
 abbrev pub around : List ℕ → List ℕ
@@ -50,6 +58,13 @@ pub record Samples : Type 0 where
   pub labelsDiffer : (label content : List ℕ) → ¬ Message Lax (beginA ++ (10 ∷ 90 ∷ 103 ∷ 61 ∷ 61 ∷ 10 ∷ (endB ++ (10 ∷ [])))) label content
   -- a label with a hyphen inside
   pub hyphenLabel : Message Strict (beginAB ++ (10 ∷ 90 ∷ 103 ∷ 61 ∷ 61 ∷ 10 ∷ (endAB ++ (10 ∷ [])))) (65 ∷ 45 ∷ 66 ∷ []) (102 ∷ [])
+  -- an empty label
+  pub emptyLabel : Message Strict (beginEmpty ++ (10 ∷ 90 ∷ 103 ∷ 61 ∷ 61 ∷ 10 ∷ (endEmpty ++ (10 ∷ [])))) [] (102 ∷ [])
+  -- an empty line alone: the final line of a standard message, whose data is empty; no strict one
+  pub emptyLine : Message Standard (around (10 ∷ 10 ∷ [])) (65 ∷ []) []
+  pub emptyLineStrict : (label content : List ℕ) → ¬ Message Strict (around (10 ∷ 10 ∷ [])) label content
+  -- `Zg===`: three pads, even under lax
+  pub thirdPad : ¬ Body Lax (10 ∷ 90 ∷ 103 ∷ 61 ∷ 61 ∷ 61 ∷ 10 ∷ [])
   -- a line of 64 characters before a last line, and as the last line
   pub fullLine : Message Strict (around (10 ∷ (replicate 64 65 ++ (10 ∷ 90 ∷ 103 ∷ 61 ∷ 61 ∷ 10 ∷ [])))) (65 ∷ []) (replicate 48 0 ++ (102 ∷ []))
   pub fullLastLine : Message Strict (around (10 ∷ (replicate 64 65 ++ (10 ∷ [])))) (65 ∷ []) (replicate 48 0)
