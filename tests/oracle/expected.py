@@ -72,9 +72,11 @@ def write_sample(mode, name, room, head, data):
 
 
 def text_sample(mode, name, room, t):
+    show = print_index if mode.startswith(("index", "table", "starts")) else print_read
+    grammars = GRAMMARS if mode in ("each", "index", "starts") else (int(mode.removeprefix("table")),)
     for start in (t[:k] for k in range(len(t) + 1)) if mode == "starts" else (t,):
-        for g in GRAMMARS if mode in ("each", "index", "starts") else (int(mode.removeprefix("table")),):
-            (print_index if mode[0] in "ist" else print_read)(name, start, g, room)
+        for g in grammars:
+            show(name, start, g, room)
 
 
 for mode, name, room, count, rest in samples(sys.argv[1], 5):
