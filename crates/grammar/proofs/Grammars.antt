@@ -1,5 +1,5 @@
 -- The bodies: a strict body is a standard body, a standard body is a lax body, and no body holds a hyphen. One line end is no
--- standard body, an empty final line is one, a strict body has a group at least, and no line of it is over 64 characters.
+-- standard body, a final line may be empty, a strict body has a group at least, and no line of it is over 64 characters.
 -- Assumes nothing.
 use mathlib.Core.Path.{_≡_, refl, sym, _∙_, subst, ap}
 use mathlib.Core.Logic.{_≢_, inl, inr}
