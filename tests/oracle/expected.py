@@ -75,6 +75,8 @@ def text_sample(mode, name, room, t):
     show = print_index if mode.startswith(("index", "table", "starts")) else print_read
     grammars = GRAMMARS if mode in ("each", "index", "starts") else (int(mode.removeprefix("table")),)
     for start in (t[:k] for k in range(len(t) + 1)) if mode == "starts" else (t,):
+        if mode == "starts":
+            print(name + ":", len(start))
         for g in grammars:
             show(name, start, g, room)
 

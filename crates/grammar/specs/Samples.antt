@@ -1,5 +1,5 @@
--- Texts of the requirements' samples, spelled out in bytes, and what the grammars make of those that the rows of the table
--- leave out: labels, lines and bundles. The rows stand with the reader, whose numbers and places they have. Assumes nothing.
+-- Texts of the requirements' samples, spelled out in bytes, and what the grammars by themselves make of labels, lines, pads and
+-- bundles. The rows of the table stand with the reader, whose numbers and places they have. Assumes nothing.
 use mathlib.Core.List.{List, [], _∷_, _++_}
 use Prim.Native.Nat.{ℕ}
 use lib.ListN.{replicate}

@@ -24,11 +24,19 @@ pub fn each(name: &[u8], text: &[u8], room: usize) {
     line(name, text, 3, room);
 }
 
+// A line with the length of the text, and those of the call.
+fn start(name: &[u8], text: &[u8], room: usize) {
+    print::name(name);
+    print::number(text.len() as u64);
+    print::end_line();
+    each(name, text, room);
+}
+
 // Every start of the text, from the empty one to the whole text.
 pub fn starts(name: &[u8], text: &[u8], room: usize) {
     let mut count = 0;
     while count <= text.len() {
-        each(name, bytes::part(text, 0, count), room);
+        start(name, bytes::part(text, 0, count), room);
         count += 1;
     }
 }

@@ -6,7 +6,7 @@
 //
 //     each      the read call and the label call, a line for each grammar; the number of a grammar: a line for that alone
 //     index     the index call, a line for each grammar; "table" and the number of a grammar: a line for that alone
-//     starts    the index call, a line for each grammar, of every start of the text
+//     starts    the same of every start of the text, behind a line with its length
 //     write     label and data are written
 //     back      the same, and what was written is read under each grammar
 //     restore   a text is read under strict, its label and data are written, and what was written is read under each grammar

@@ -16,6 +16,7 @@ pub fn put(bytes: &mut [u8], at: usize, byte: u8) -> usize {
     at
 }
 
+// Makes every byte stale.
 pub fn unset(bytes: &mut [u8]) {
     let mut i = 0;
     while i < bytes.len() {

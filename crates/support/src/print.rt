@@ -57,7 +57,7 @@ fn either(first: bool, one: &[u8], other: &[u8]) {
 }
 
 // Whether all behind a result is zero.
-pub fn clean(zero: bool) {
+fn clean(zero: bool) {
     either(zero, b" clean", b" dirty");
 }
 
@@ -98,7 +98,7 @@ fn checksum(bytes: &[u8]) {
 }
 
 // The bytes in hexadecimal digits, or the checksum of many.
-pub fn data(bytes: &[u8]) {
+fn data(bytes: &[u8]) {
     if SHORT < bytes.len() {
         checksum(bytes);
     } else {
@@ -151,7 +151,7 @@ pub fn text(bytes: &[u8]) {
     }
 }
 
-pub fn grammar(number: u32) {
+fn grammar(number: u32) {
     match number {
         1 => word(b" lax"),
         2 => word(b" standard"),

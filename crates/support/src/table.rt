@@ -10,6 +10,7 @@ pub fn get(table: &[u32], at: usize) -> u32 {
     if at < table.len() { table[at] } else { 0 }
 }
 
+// Makes every number stale.
 pub fn unset(table: &mut [u32]) {
     let mut i = 0;
     while i < table.len() {

@@ -17,8 +17,8 @@ loop-holds c = search needs
 part-requires : tie.Need-part-requires Inv-loop μ-loop
 part-requires c κs = search needs
 
-each-requires : tie.Need-each-requires Inv-loop μ-loop
-each-requires c κs = search needs
+start-requires : tie.Need-start-requires Inv-loop μ-loop
+start-requires c κs = search needs
 
 add-count : tie.Need-add-count Inv-loop μ-loop
 add-count c = search needs
@@ -40,7 +40,7 @@ starts-spec =
     μ-loop
     loop-holds
     part-requires
-    each-requires
+    start-requires
     add-count
     loop-less
     loop-again
