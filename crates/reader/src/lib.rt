@@ -33,7 +33,7 @@ use reading::Span;
 use reading::Tally;
 
 // The longest text and the longest label that are read, in bytes.
-pub const TEXT_LIMIT: usize = 65536;
+pub const TEXT_LIMIT: usize = 16777216;
 
 pub const LABEL_LIMIT: usize = 64;
 

@@ -71,7 +71,7 @@ NoCharacter l = All (λ c. ¬ AlphabetChar c) l
 pub data NotAdmitted (text : List ℕ) (number : ℕ) : Refusal → Type 0 where
   -- 1: grammar number not 1, 2 or 3
   unknownGrammar : grammarOf number ≡ Unknown → NotAdmitted text number UnknownGrammar
-  -- 2: text over 65,536 bytes
+  -- 2: text over 16,777,216 bytes (K4; before it, "text over 65,536 bytes")
   textTooLong : (g : Grammar) → grammarOf number ≡ Known g → textLimit < length text → NotAdmitted text number TextTooLong
 
 -- The rows 3 to 5, of a message that was begun: its longest start, and the place where that ends.

@@ -24,7 +24,7 @@ use writing::WriteAnswer;
 use writing::WriteRefusal;
 
 // The longest data that is written, in bytes.
-pub const DATA_LIMIT: usize = 32768;
+pub const DATA_LIMIT: usize = 8388608;
 
 // The characters of a full line, and the bytes that they stand for; the same of a group.
 const LINE_CHARS: usize = 64;

@@ -60,9 +60,9 @@ Restores =
     → (writeOf (labelOf text strictNumber) (dataRead text room) outRoom ≡ Accepted (textSize (length text)))
     × (writeOutput (labelOf text strictNumber) (dataRead text room) outRoom ≡ text ++ replicate (outRoom - length text) 0)
 
--- The largest text that is written.
+-- The largest text that is written. (44,535 bytes in the requirements, before their change request K4.)
 abbrev pub largest : ℕ
-largest = 44535
+largest = 11359735
 
 pub record Largest : Type 0 where
   pub most : (label content text : List ℕ) → Written label content text → length text ≤ largest

@@ -25,7 +25,7 @@ pub data Refuses (label content : List ℕ) : WriteRefusal → Type 0 where
   notALabel : length label ≤ labelLimit → ¬ Label label → Refuses label content NotALabel
   -- 13: no data
   noData : length label ≤ labelLimit → Label label → content ≡ [] → Refuses label content NoData
-  -- 14: data over 32,768 bytes
+  -- 14: data over 8,388,608 bytes (K4; before it, "data over 32,768 bytes")
   dataTooLong : length label ≤ labelLimit → Label label → dataLimit < length content → Refuses label content DataTooLong
 
 -- None of 11 to 14 applies: the writer takes this label and data.
