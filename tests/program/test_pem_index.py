@@ -22,8 +22,10 @@ CHAIN = (ROOT / "examples/chain.pem").read_bytes()
 GRAMMARS = {"lax": 1, "standard": 2, "strict": 3}
 MESSAGE = b"-----BEGIN A-----\nZg==\n-----END A-----\n"
 SHORTEST = b"-----BEGIN ----------END -----"
-TEXT_LIMIT = 65536
-TABLE_SIZE = 1 + 5 * (TEXT_LIMIT // len(SHORTEST))
+# What the program takes. The library's limit is higher, so the program refuses more by itself.
+INPUT_LIMIT = 65536
+TOO_LONG = b"2 0\n"
+TABLE_SIZE = 1 + 5 * (INPUT_LIMIT // len(SHORTEST))
 USAGE = b"pem_index: give one grammar (lax, standard, strict or a number) and the text on standard input\n"
 UNREADABLE = b"pem_index: standard input cannot be read\n"
 TEXTS = [
@@ -45,15 +47,20 @@ TEXTS = [
     CHAIN[:-1],
     CHAIN.replace(b"\n", b""),
     bytes(range(256)),
-    SHORTEST * (TEXT_LIMIT // len(SHORTEST)),
-    SHORTEST + b" " * (TEXT_LIMIT - len(SHORTEST)),
-    SHORTEST + b" " * (TEXT_LIMIT - len(SHORTEST) + 1),
+    SHORTEST * (INPUT_LIMIT // len(SHORTEST)),
+    SHORTEST.ljust(INPUT_LIMIT),
+    SHORTEST.ljust(INPUT_LIMIT + 1),
+    SHORTEST.ljust(INPUT_LIMIT + 2),
+    SHORTEST * (INPUT_LIMIT // len(SHORTEST) + 1),
     b"-" * 1000000,
+    SHORTEST.ljust(oracle.TEXT_LIMIT + 1),
 ]
 
 
 def lines(text, grammar):
-    """What the program has to print, by the oracle."""
+    """What the program has to print: by the oracle, but for its own limit."""
+    if len(text) > INPUT_LIMIT:
+        return TOO_LONG
     answer = oracle.index(text, grammar, TABLE_SIZE)
     if answer.number:
         return b"%d %d\n" % (answer.number, answer.place)
@@ -87,9 +94,15 @@ class Program(unittest.TestCase):
         for text in TEXTS:
             self.assertEqual(run(PROGRAM, input=text), (0, lines(text, 1), b""))
 
-    def test_unknown_numbers_are_answered_by_the_library(self):
+    def test_unknown_numbers_come_before_every_other_refusal(self):
         for word in ("0", "4", "257", "999999999"):
-            self.assertEqual(run(PROGRAM, word, input=MESSAGE), (0, b"1 0\n", b""))
+            for text in (MESSAGE, b"", b"x", SHORTEST.ljust(INPUT_LIMIT), SHORTEST.ljust(INPUT_LIMIT + 1)):
+                self.assertEqual(run(PROGRAM, word, input=text), (0, b"1 0\n", b""))
+
+    def test_longer_input_is_refused_though_the_library_takes_it(self):
+        text = SHORTEST.ljust(INPUT_LIMIT + 1)
+        self.assertEqual(oracle.index(text, 1, TABLE_SIZE).number, 0)
+        self.assertEqual(run(PROGRAM, "lax", input=text), (0, TOO_LONG, b""))
 
     def test_leading_zeros_of_a_number(self):
         self.assertEqual(run(PROGRAM, "003", input=MESSAGE), run(PROGRAM, "strict", input=MESSAGE))

@@ -1,5 +1,9 @@
--- How much of a buffer a read fills. Assumes nothing.
+-- How much of a buffer a read fills, and how an input is refused that is too long for it. Assumes nothing.
 use Prim.Native.Nat.{ℕ, _+_, _≤_, _<_}
+use Rattle.grammar.specs.declared.Numbered.{Numbered}
+use Rattle.grammar.specs.declared.Numbered.the-variants.{Known, Unknown}
+use Rattle.reading.specs.declared.Refusal.{Refusal}
+use Rattle.reading.specs.declared.Refusal.the-variants.{UnknownGrammar, TextTooLong}
 use Rattle.pem_index.specs.declared.input.Input.{Input}
 use Rattle.pem_index.specs.declared.input.Input.the-variants as input
 use Rattle.pem_index.specs.declared.input.More.{More}
@@ -11,7 +15,14 @@ ReadBehind n (more.Bytes k) size = (0 < k) × (n + k ≤ size)
 ReadBehind n more.End size = Unit {0}
 ReadBehind n more.Failed size = Unit {0}
 
--- The input lies within the buffer.
+-- The input lies within the buffer and leaves a byte of it free, so its end was seen.
 abbrev pub Within : Input → ℕ → Type 0
-Within (input.Bytes n) size = n ≤ size
+Within (input.Bytes n) size = n < size
+Within input.TooLong size = Unit {0}
 Within input.Unreadable size = Unit {0}
+
+-- How an input is refused that is too long for the buffer: as the library refuses a text over its limit, by 2, and by 1 before it
+-- where the grammar's number is unknown.
+abbrev pub longRefusal : Numbered → Refusal
+longRefusal Unknown = UnknownGrammar
+longRefusal (Known g) = TextTooLong

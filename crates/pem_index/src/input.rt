@@ -1,11 +1,17 @@
-// Standard input, as far as a buffer has room for it.
+// Standard input, where it leaves a byte of a buffer free.
+ghost use mathlib.Core.Path.{_≡_};
 ghost use Prim.Native.Nat.{_≤_};
 ghost use lib.ListN.{length};
-ghost use Rattle.pem_index.specs.Input.{ReadBehind, Within};
+ghost use Rattle.grammar.specs.Grammars.{grammarOf};
+ghost use Rattle.pem_index.specs.Input.{ReadBehind, Within, longRefusal};
+use grammar::Grammar;
+use grammar::Numbered;
 use libc::STDIN_FILENO;
+use reading::Refusal;
 
 pub enum Input {
     Bytes(usize),
+    TooLong,
     Unreadable,
 }
 
@@ -31,8 +37,8 @@ fn read_more(text: &mut [u8], n: usize) -> More
     if k == 0 { More::End } else { More::Bytes(k) }
 }
 
-// Reads until the buffer is full or the input ends. A read that fails makes the whole input unreadable: what came before it is
-// no text that anybody sent.
+// Reads until the input ends. A buffer that is full before that holds a part of the input only, and an index of a part would look
+// like an answer. A read that fails makes the whole input unreadable: what came before it is no text that anybody sent.
 pub fn read(text: &mut [u8]) -> Input
     ensures { λ r. ⌜ Within r (length (now (text .exit))) ⌝ }
 {
@@ -50,5 +56,15 @@ pub fn read(text: &mut [u8]) -> Input
             }
         }
     }
-    Input::Bytes(n)
+    Input::TooLong
+}
+
+// How an input that is too long is refused. The library takes longer ones, so it is not asked.
+pub fn long_refusal(grammar: u32) -> Refusal
+    ensures { λ r. ⌜ r ≡ longRefusal (grammarOf grammar) ⌝ }
+{
+    match Grammar::from_number(grammar) {
+        Numbered::Known(_) => Refusal::TextTooLong,
+        Numbered::Unknown => Refusal::UnknownGrammar,
+    }
 }

@@ -1,8 +1,8 @@
 // Prints what a bundle holds: `pem_index GRAMMAR < FILE`.
 //
 // The grammar is lax, standard, strict or a number, and lax where it is left out. Standard input is indexed as a whole, and
-// each message gets a line: start, length, label and data size. A refusal is one line: number and place. What keeps the
-// program from its work is one line that starts with its name.
+// each message gets a line: start, length, label and data size. A refusal is one line: number and place; more than 65,536 bytes
+// are a text that is too long. What keeps the program from its work is one line that starts with its name.
 mod choice;
 mod input;
 mod listing;
@@ -10,10 +10,11 @@ mod listing;
 use choice::Choice;
 use grammar::Grammar;
 use input::Input;
+use reading::Refusal;
 use support::print;
 use support::table;
 
-// One byte more than the library reads, so that a longer input is seen to be too long.
+// One byte more than the program takes, so that a longer input is seen to be too long.
 const TEXT_SIZE: usize = 65537;
 
 // No word that names a grammar is longer: a name has eight letters at most, a number nine digits.
@@ -30,10 +31,16 @@ fn index(text: &[u8], grammar: u32) {
     }
 }
 
+fn refuse(refusal: Refusal) {
+    let place = reader::refusal_place(refusal);
+    listing::refusal(reader::refusal_number(refusal), place.0 as u64);
+}
+
 fn index_input(grammar: u32) {
     let mut text = [0u8; TEXT_SIZE];
     match input::read(&mut text) {
         Input::Bytes(n) => index(&text[..n], grammar),
+        Input::TooLong => refuse(input::long_refusal(grammar)),
         Input::Unreadable => print::word(b"pem_index: standard input cannot be read\n"),
     }
 }

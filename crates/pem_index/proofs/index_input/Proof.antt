@@ -29,6 +29,15 @@ index-requires c κs = search needs
 enum-told : tie.Need-enum-told
 enum-told c = search needs
 
+long-refusal-requires : tie.Need-long-refusal-requires
+long-refusal-requires c κs = search needs
+
+refuse-requires : tie.Need-refuse-requires
+refuse-requires c κs = search needs
+
+enum-told-2 : tie.Need-enum-told-2
+enum-told-2 c = search needs
+
 slice-aggregate-word : tie.Need-slice-aggregate-word
 slice-aggregate-word c = search needs
 
@@ -41,6 +50,9 @@ returns c = search needs
 returns-2 : tie.Need-returns-2
 returns-2 c = search needs
 
+returns-3 : tie.Need-returns-3
+returns-3 c = search needs
+
 pub index-input-spec : {M : Type 1} → statement M
 index-input-spec =
     tie.close
@@ -52,7 +64,11 @@ index-input-spec =
     slice-aggregate-index
     index-requires
     enum-told
+    long-refusal-requires
+    refuse-requires
+    enum-told-2
     slice-aggregate-word
     word-requires
     returns
-    returns-2)
+    returns-2
+    returns-3)
