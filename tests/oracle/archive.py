@@ -8,8 +8,9 @@ import os
 import subprocess
 import tempfile
 
-GUARD = 8
-OLD = 0xAAAAAAAA
+GUARD = 32  # bytes, so that a table behind them is aligned
+OLD = b"\xaa"
+NUMBER = 4  # bytes of a table's number
 
 
 def loaded(archive):
@@ -23,13 +24,14 @@ def old_report():
     return (ctypes.c_uint64 * 8)(*([7] * 8))
 
 
-def lent(call, *given, room, item=ctypes.c_uint8, old=OLD & 0xFF):
-    """What a call answers that is lent `room` items and a report: number, report and items."""
-    items, report = (item * (room + 2 * GUARD))(*([old] * (room + 2 * GUARD))), old_report()
-    answer = call(*given, ctypes.byref(items, GUARD * ctypes.sizeof(item)), ctypes.c_size_t(room), report)
-    held = list(items)
-    assert held[:GUARD] == held[GUARD + room:] == [old] * GUARD, (given, room)
-    return answer, list(report), held[GUARD:GUARD + room]
+def lent(call, *given, room, width=1):
+    """What a call answers that is lent `room` items of `width` bytes and a report: number, report and items in bytes."""
+    guard, length = OLD * GUARD, room * width
+    space, report = ctypes.create_string_buffer(guard + OLD * length + guard, length + 2 * GUARD), old_report()
+    answer = call(*given, ctypes.byref(space, GUARD), ctypes.c_size_t(room), report)
+    held = space.raw
+    assert held[:GUARD] == held[GUARD + length:] == guard, room
+    return answer, list(report), held[GUARD:GUARD + length]
 
 
 def called(library, text, grammar, room):
@@ -43,7 +45,8 @@ def called(library, text, grammar, room):
 def indexed(library, text, grammar, room):
     """What index answers: number, report and table."""
     given = text, ctypes.c_size_t(len(text)), ctypes.c_uint32(grammar)
-    return lent(library.zullifern_index, *given, room=room, item=ctypes.c_uint32, old=OLD)
+    number, report, table = lent(library.zullifern_index, *given, room=room, width=NUMBER)
+    return number, report, memoryview(table).cast("I").tolist()
 
 
 def written(library, label, data, room):

@@ -1,5 +1,6 @@
 """Compares the linked archive with the oracle on random texts and bundles: valid, damaged by up to three edits, and soups
-of marks; the write call on random labels, valid and damaged, and data of all lengths.
+of marks; the write call on random labels, valid and damaged, and data of many lengths. A few texts have white behind them up
+to the limit or one byte over it, and a few data are as long as may be written or one byte longer.
 
     rt staticlib zullifern
     python3 compare.py target/staticlib/libzullifern.a SEED COUNT
@@ -14,7 +15,10 @@ import sys
 import oracle
 from archive import called, indexed, loaded, written
 
-ALPHABET = b"ABCDEFGHIJKLMNOPQRSTUVWXYZabcdefghijklmnopqrstuvwxyz0123456789+/"
+# How often data are long, and how often a text or data are at a limit.
+LONG, LIMIT = 0.005, 0.0005
+# How much of each part a disagreement shows.
+SHOWN = 5000
 WHITE = [b" ", b"\t", b"\r", b"\n", b"\x0b", b"\x0c"]
 SOUP = [b"-----BEGIN ", b"-----END ", b"-----", b"A", b"=", b"==", b"\r", b"\n", b"\r\n", b" ", b"\t", b"Zg==", b"-", b"\x0b", b"A-B", b"\xff", b"!"]
 LABEL_BYTES = [c for c in range(33, 127) if c != 45]
@@ -28,7 +32,7 @@ class Texts:
         return b"".join(self.random.choice(parts) for _ in range(self.random.choice(counts)))
 
     def characters(self, n):
-        return bytes(self.random.choice(ALPHABET) for _ in range(n))
+        return bytes(self.random.choice(oracle.ALPHABET) for _ in range(n))
 
     def line_end(self):
         return self.random.choice([b"\n", b"\n", b"\r\n", b"\r"])
@@ -82,7 +86,14 @@ class Texts:
                 del text[at:]
         return bytes(text)
 
+    def at_the_limit(self):
+        """A message with white behind it, up to the limit or one byte over it."""
+        message, length = self.message(self.random.choice([1, 2, 3])), oracle.TEXT_LIMIT + self.random.choice([0, 1])
+        return message.ljust(length, self.random.choice(WHITE))
+
     def text(self):
+        if self.random.random() < LIMIT:
+            return self.at_the_limit()
         if self.random.random() < 0.85:
             return self.damaged(self.message(self.random.choice([1, 2, 3])))
         return self.some(SOUP, range(15))
@@ -114,12 +125,18 @@ class Texts:
 
     def data(self):
         length = self.random.choice([self.random.randint(0, 8), self.random.randint(0, 200)])
-        if self.random.random() < 0.005:
+        if self.random.random() < LONG:
             length = self.random.choice([32767, 32768, 32769, self.random.randint(0, 33000)])
+        if self.random.random() < LIMIT:
+            length = oracle.DATA_LIMIT + self.random.choice([0, 1])
         return self.random.randbytes(length)
 
     def write_room(self, needed):
         return max(0, needed + self.random.choice([0, 0, 0, -1, 1, 7, 100, -needed, -self.random.randint(0, 40)]))
+
+
+def agree(got, want, *given):
+    assert got == want, "\n".join(repr(part)[:SHOWN] for part in (*given, got, want))
 
 
 def compare_read(library, text, grammar, room):
@@ -127,9 +144,8 @@ def compare_read(library, text, grammar, room):
     a = oracle.read(text, grammar, room)
     passed = a.number in (0, 10)
     label = [0, 0, 0, a.label_at if passed else 0, a.label_len if passed else 0, 0, 0, 0]
-    want = (a.number, [*a.row(), 0, 0, 0], list(a.out), 0, label)
-    got = called(library, text, grammar, room)
-    assert got == want, (text, grammar, room, got, want)
+    want = (a.number, [*a.row(), 0, 0, 0], a.out, 0, label)
+    agree(called(library, text, grammar, room), want, text, grammar, room)
     return a.number
 
 
@@ -137,20 +153,18 @@ def compare_index(library, text, grammar, room):
     """The number that oracle and library agree on."""
     a = oracle.index(text, grammar, room)
     want = (a.number, [*a.row(), 0, 0, 0], a.out)
-    got = indexed(library, text, grammar, room)
-    assert got == want, (text, grammar, room, got, want)
+    agree(indexed(library, text, grammar, room), want, text, grammar, room)
     return a.number
 
 
 def compare_write(library, label, data, room):
     """The number that oracle and library agree on. What was written is read back alike under each grammar."""
     a = oracle.write(label, data, room)
-    want = (a.number, [*a.row(), 0, 0, 0], list(a.out))
-    got = written(library, label, data, room)
-    assert got == want, (label, data, room, got, want)
+    want = (a.number, [*a.row(), 0, 0, 0], a.out)
+    agree(written(library, label, data, room), want, label, data, room)
     for grammar in (1, 2, 3) if a.number == 0 else ():
         number, report, out, *_ = called(library, a.out[:a.size], grammar, len(data))
-        assert (number, report[2:5], bytes(out)) == (0, [len(data), 11, len(label)], data), (label, data, grammar, report)
+        agree((number, report[2:5], out), (0, [len(data), 11, len(label)], data), label, grammar)
     return a.number
 
 

@@ -11,7 +11,7 @@ from forms import GRAMMARS, checksum, numbers, samples, text_of
 RESERVED = (0, 0, 0)
 
 # What a text that was written is read back into.
-DATA_ROOM = 32769
+DATA_ROOM = 49152
 
 
 def made(n):

@@ -7,6 +7,8 @@ LETTERS = {byte: mark for mark, byte in MARKS.items()}
 RESERVED = set(MARKS) | set("@{}")
 # Of the samples of one script: the program has room for those of both.
 LIMIT = 65536
+# What the program has for a text, a label, data or an output.
+BUFFER = 65536
 GRAMMARS = {1: "lax", 2: "standard", 3: "strict"}
 
 

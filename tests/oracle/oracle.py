@@ -10,6 +10,12 @@ byte: `re` backtracks.
 import base64
 import re
 
+# The longest text, label and data to write, in bytes. Change request K4 gives the first and the last, which were 65,536
+# and 32,768 before it.
+TEXT_LIMIT = 16_777_216
+LABEL_LIMIT = 64
+DATA_LIMIT = 8_388_608
+
 
 class Node:
     def __add__(self, other):
@@ -101,7 +107,11 @@ def unnamed(pattern):
     return re.sub(r"\(\?P<\w+>", "(?:", pattern)
 
 
-ALPHABET = "ABCDEFGHIJKLMNOPQRSTUVWXYZabcdefghijklmnopqrstuvwxyz0123456789+/"
+ALPHABET = b"ABCDEFGHIJKLMNOPQRSTUVWXYZabcdefghijklmnopqrstuvwxyz0123456789+/"
+NOT_ALPHABET = bytes(set(range(256)) - set(ALPHABET))
+# The value of a character is two octal digits.
+HIGH_DIGIT = bytes.maketrans(ALPHABET, b"".join(b"%d" % (value // 8) for value in range(64)))
+LOW_DIGIT = bytes.maketrans(ALPHABET, b"".join(b"%d" % (value % 8) for value in range(64)))
 
 alpha = Set(r"A-Za-z0-9+/")
 pad = Set("=")
@@ -161,10 +171,10 @@ OPENED = {
 }
 
 
-def longest_start(t, pattern):
-    """The length of the longest start of t that the pattern has. A start of a start is one, so the lengths can be
-    halved."""
-    low, high = 0, len(t)
+def longest_start(t, pattern, low=0):
+    """The length of the longest start of t that the pattern has, where `low` bytes are known to be one. A start of a
+    start is one, so the lengths can be halved."""
+    high = len(t)
     while low < high:
         middle = (low + high + 1) // 2
         if pattern.fullmatch(t[:middle]) is not None:
@@ -184,11 +194,11 @@ def kind(start, g):
 
 def decoded(chars):
     """RFC 4648, high bits first; spare bits dropped. With the spare bits as a number."""
-    bits = "".join(format(ALPHABET.index(chr(c)), "06b") for c in chars)
-    whole = len(bits) // 8
-    data = bytes(int(bits[8 * i:8 * i + 8], 2) for i in range(whole))
-    rest = bits[8 * whole:]
-    return data, int(rest or "0", 2)
+    digits = bytearray(2 * len(chars))
+    digits[::2], digits[1::2] = chars.translate(HIGH_DIGIT), chars.translate(LOW_DIGIT)
+    size, spare = divmod(6 * len(chars), 8)
+    bits = int(digits or b"0", 8)
+    return (bits >> spare).to_bytes(size, "big"), bits & (1 << spare) - 1
 
 
 class Answer:
@@ -203,21 +213,21 @@ class Answer:
         return "%d at %d size %d label %d+%d" % self.row()
 
 
-def judged(m, t, g):
-    """The checks 6 to 9 of a message that the match m has found in t: the refusal's number and place, or zeros, and
-    the data."""
-    if len(m["opened"]) > 64:
+def judged(m, g):
+    """The checks 6 to 9 of a message that the match m has found: the refusal's number and place, or zeros, and the
+    data."""
+    if len(m["opened"]) > LABEL_LIMIT:
         return 6, m.start("opened"), b""
     if m["opened"] != m["closed"]:
         return 7, m.start("closed"), b""
-    chars = bytes(c for c in m["body"] if chr(c) in ALPHABET)
+    chars = m["body"].translate(None, NOT_ALPHABET)
     n, p = len(chars), m["body"].count(b"=")
     if (n % 4, p) not in ((0, 0), (2, 2), (3, 1)):
         return 8, m.start("dashes"), b""
     data, spare = decoded(chars)
     assert data == base64.b64decode(chars + b"=" * p)
     if g == 3 and spare != 0:
-        return 9, max(i for i in range(m.start("body"), m.end("body")) if chr(t[i]) in ALPHABET), b""
+        return 9, m.start("body") + len(m["body"].rstrip(NOT_ALPHABET)) - 1, b""
     return 0, 0, data
 
 
@@ -226,13 +236,13 @@ def read(t, g, room):
     zeros = bytes(room)
     if g not in GRAMMARS:
         return Answer(1, out=zeros)
-    if len(t) > 65536:
+    if len(t) > TEXT_LIMIT:
         return Answer(2, out=zeros)
     m = WHOLE[g].fullmatch(t)
     if m is None:
         k = longest_start(t, START[g])
         return Answer(kind(t[:k], g), k, out=zeros)
-    number, place, data = judged(m, t, g)
+    number, place, data = judged(m, g)
     if number != 0:
         return Answer(number, place, out=zeros)
     at, length = m.start("opened"), len(m["opened"])
@@ -261,11 +271,11 @@ def index(t, g, room):
     zeros = [0] * room
     if g not in GRAMMARS:
         return Answer(1, out=zeros)
-    if len(t) > 65536:
+    if len(t) > TEXT_LIMIT:
         return Answer(2, out=zeros)
     table, done = [0], 0
     for m in messages(t, g):
-        number, place, data = judged(m, t, g)
+        number, place, data = judged(m, g)
         if number != 0:
             return Answer(number, place, out=zeros)
         table[0] += 1
@@ -273,7 +283,7 @@ def index(t, g, room):
         done = m.end()
     if done < len(t):
         # Over bundles; what the start has of opening and closing is asked of the message behind the whole ones.
-        k = longest_start(t, BUNDLE_START[g])
+        k = longest_start(t, BUNDLE_START[g], done)
         return Answer(kind(t[done:k], g), k, out=zeros)
     if len(table) > room:
         return Answer(10, 0, len(table), out=zeros)
@@ -290,13 +300,13 @@ def written(label, data):
 def write(label, data, room):
     """The answer of the write call for a label, data and a lent output of `room` bytes."""
     zeros = bytes(room)
-    if len(label) > 64:
+    if len(label) > LABEL_LIMIT:
         return Answer(11, out=zeros)
     if LABEL.fullmatch(label) is None:
         return Answer(12, out=zeros)
     if len(data) == 0:
         return Answer(13, out=zeros)
-    if len(data) > 32768:
+    if len(data) > DATA_LIMIT:
         return Answer(14, out=zeros)
     text = written(label, data)
     if len(text) > room:

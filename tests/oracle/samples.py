@@ -6,14 +6,21 @@
 import random
 import sys
 
-from forms import Samples, examples, form
+from forms import BUFFER, Samples, examples, form, text_of
 
 samples = Samples()
 comment = samples.comment
 
 
 def put(mode, name, text, room=128, count=1):
+    assert room <= BUFFER and len(text_of(text, count)) <= BUFFER, name
     samples.put(mode, name, room, count, text)
+
+
+def long(mode, name, before, unit, behind=b"", **more):
+    """A sample with as many of a unit of one byte as make the text as long as the program's buffer."""
+    count = BUFFER - len(before) - len(behind)
+    put(mode, "%s-%d" % (name, BUFFER), form(before) + "{" + form(unit) + "}" + form(behind), count=count, **more)
 
 
 def each(name, t, **more):
@@ -57,7 +64,7 @@ comment("Grammars that are not known.")
 for g in (0, 4, 257, 4294967295):
     put(str(g), "M", form(M), room=8)
 put("0", "empty-text", "", room=0)
-put("0", "over-the-limit", form(M) + "{ }", room=8, count=65537 - 39)
+long("0", "white-behind", M, b" ", room=8)
 
 comment("The length of a line.")
 each("line-65", body(FULL + b"A\n"))
@@ -192,21 +199,19 @@ each("M-twice", M + M)
 each("M-no-last-LF-then-M", M[:-1] + M)
 each("DEL-in-data", body(b"Zm\x7f9v\n"))
 
-comment("Texts of 65,536 and of 65,537 bytes.")
-for limit in (65536, 65537):
-    put("each", "white-before-%d" % limit, "{ }" + form(M), count=limit - 39)
-    put("each", "white-behind-%d" % limit, form(M) + "{ }", count=limit - 39)
-    put("each", "blanks-behind-%d" % limit, form(M[:-1]) + "{&}$", count=limit - 39)
-    put("each", "blanks-behind-opening-%d" % limit, form(M[:17]) + "{ }" + form(M[17:]), count=limit - 39)
+comment("Texts of 65,536 bytes, and of one less.")
+long("each", "white-before", b"", b" ", M)
+long("each", "white-behind", M, b" ")
+long("each", "blanks-behind", M[:-1], b"\t", b"\n")
+long("each", "blanks-behind-opening", M[:17], b" ", M[17:])
 LONG = "-----BEGIN AB-----${" + FULL.decode() + "$}" + FULL[:44].decode() + "$-----END AB-----"
 put("each", "lines-65536", LONG + "$", room=49152, count=1007)
 put("each", "lines-65536", LONG + "$", room=48368, count=1007)
-put("each", "lines-65537", LONG + "%$", room=49152, count=1007)
 put("each", "lines-65535", LONG, room=49152, count=1007)
 
-comment("Data of 1 to 49 and of 32,768 and 32,769 bytes.")
+comment("Data of 1 to 49, of 32,768, and of 48,367 to 48,369 bytes, the most that fit.")
 LAST = {0: "", 1: "/w==", 2: "//8=", 47: FULL[:60].decode() + "//8="}
-for n in (1, 2, 3, 47, 48, 49, 32768, 32769):
+for n in (1, 2, 3, 47, 48, 49, 32768, 48367, 48368, 48369):
     lines, rest = divmod(n, 48)
     if rest in LAST:
         last = LAST[rest]
@@ -277,15 +282,14 @@ index("M", M, room=5)
 index("closing-B-and-room", message(b"A", b"Zg==\n", b"B"), room=0)
 index("x-behind-and-room", M + b"x", room=0)
 
-comment("Grammars that are not known, and texts over the limit.")
+comment("Grammars that are not known, and texts of 65,536 bytes.")
 for g in (0, 4, 257, 4294967295):
     put("table%d" % g, "M-twice", form(M + M), room=11)
 put("table0", "empty-text", "", room=0)
-put("table4", "over-the-limit", form(M) + "{ }", room=8, count=65537 - 39)
-for limit in (65536, 65537):
-    put("index", "white-before-%d" % limit, "{ }" + form(M + M), room=11, count=limit - 78)
-    put("index", "white-between-%d" % limit, form(M) + "{ }" + form(M), room=11, count=limit - 78)
-    put("index", "blanks-behind-%d" % limit, form(M + NO_LF) + "{&}$", room=11, count=limit - 78)
+long("table4", "white-behind", M, b" ", room=8)
+long("index", "white-before", b"", b" ", M + M, room=11)
+long("index", "white-between", M, b" ", M, room=11)
+long("index", "blanks-behind", M + NO_LF, b"\t", b"\n", room=11)
 
 comment("Messages of all lengths, and who owns what stands between them.")
 CRLF, CR = M.replace(b"\n", b"\r\n"), M.replace(b"\n", b"\r")

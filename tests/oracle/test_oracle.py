@@ -8,6 +8,7 @@ import oracle
 from oracle import index, read, write
 
 M = b"-----BEGIN A-----\nZg==\n-----END A-----\n"
+UNKNOWN = (0, 4, 257, 4294967295)
 
 
 def body(b):
@@ -53,8 +54,6 @@ for g in (1, 2, 3):
         t = b"-----BEGIN " + l + b"-----\nZg==\n-----END " + l + b"-----\n"
         a = read(t, g, 1)
         assert (a.number, a.place) == (want, 11 if want else 0)
-big = M + b" " * (65536 - 39)
-assert read(big, 1, 1).number == 0 and read(big + b" ", 1, 1).number == 2
 assert read(b"  ", 1, 1).row()[:2] == (3, 2)
 
 # Rows of the index: a text, and for each grammar the numbers of the table or a number and a place.
@@ -109,14 +108,11 @@ for row in BUNDLES:
             a = index(row[1], g, room)
             assert a.row() == (0 if n <= room else 10, 0, n, 0, 0), (row[0], g, room, a)
             assert a.out == (want + [0] * (room - n) if n <= room else [0] * room), (row[0], g, room)
-for g in (0, 4, 257, 4294967295):
-    for t in (b"", M, big + b" "):
+for g in UNKNOWN:
+    for t in (b"", M):
         assert index(t, g, 0).row() == (1, 0, 0, 0, 0)
-assert index(big, 1, 6).out == [1, 0, 65536, 11, 1, 1] and index(big + b" ", 1, 6).row() == (2, 0, 0, 0, 0)
-full = b"-----BEGIN ----------END -----" * 2184
-assert index(full, 1, 10920).row() == (10, 0, 10921, 0, 0)
-assert index(full + b" " * 16, 1, 10921).out[-5:] == [65490, 46, 65501, 0, 0]
-assert index(full + b"x", 1, 0).row() == (3, 65520, 0, 0, 0)
+SHORTEST = b"-----BEGIN ----------END -----"
+assert index(SHORTEST * 2184 + b"x", 1, 0).row() == (3, 65520, 0, 0, 0)
 
 
 # A second method: derivatives. The text is cut into marks, a CRLF being one mark, and the grammar is derived by each. An
@@ -197,7 +193,7 @@ def word(s):
     return chain(*[marks([c]) for c in s])
 
 
-A = marks(oracle.ALPHABET.encode())
+A = marks(oracle.ALPHABET)
 PAD = marks(b"=")
 BL = marks(b"\t ")
 CRLF = ("set", frozenset([b"\r\n"]))
@@ -367,9 +363,8 @@ def check_label(label):
 
 
 assert write(b"A", F, 39).out == M
-assert size(b"L" * 64, bytes(32768)) == 44535
-check_write(b"L" * 64, bytes(range(256)) * 128)
-check_write(b"", bytes(range(255, -1, -1)) * 128)
+for n in (32767, 32768, 32769):
+    check_write(b"A", random.randbytes(n))
 for n in range(1, 150):
     for label in (b"", b"A", b"L" * 63, b"L" * 64):
         check_write(label, random.randbytes(n))
@@ -388,7 +383,7 @@ for n in range(7):
 
 # The first of 11, 12, 13, 14 and 10 that applies, of all at once.
 for label, number in ((b"A" * 64 + b"-", 11), (b"A" * 65, 11), (b"A" * 63 + b"-", 12), (b"A", None)):
-    for data, later in ((b"", 13), (bytes(32769), 14), (bytes(32768), 10), (F, 10)):
+    for data, later in ((b"", 13), (bytes(8388609), 14), (bytes(8388608), 10), (F, 10)):
         for room in (0, 20, 38):
             a, want = write(label, data, room), number or later
             needed = size(label, data) if want == 10 else 0
@@ -398,4 +393,41 @@ for t in BASES:
     for end in (b"\n", b"\r\n", b"\r"):
         check_restored(t.replace(b"\n", end))
         check_restored(damaged(t, 1).replace(b"\n", end))
+
+
+def check_over(t):
+    """A text that is one byte too long is refused with 2, and under an unknown grammar with 1."""
+    assert len(t) == 16777217
+    for call in (read, index):
+        assert all(call(t, g, 9).row() == (2, 0, 0, 0, 0) for g in (1, 2, 3))
+        assert all(call(t, g, 9).row() == (1, 0, 0, 0, 0) for g in UNKNOWN)
+
+
+def check_longest(label, data):
+    """A message that fills the limit is read under each grammar."""
+    t = oracle.written(label, data)
+    assert len(t) == 16777216
+    for g in (1, 2, 3):
+        a = read(t, g, len(data))
+        assert a.row() == (0, 0, len(data), 11, len(label)) and a.out == data, (g, a)
+        assert index(t, g, 6).out == [1, 0, 16777216, 11, len(label), len(data)], g
+    check_over(t[:-1] + b"\r\n")
+
+
+def check_fullest(full):
+    """As many messages as the limit has room for, and white behind them up to the limit."""
+    assert len(full) == 16777200
+    assert index(full, 1, 2796200).row() == (10, 0, 2796201, 0, 0)
+    assert index(full + b" " * 16, 1, 2796201).out[-5:] == [16777170, 46, 16777181, 0, 0]
+
+
+# The limits. A fault at the end of such a text is left to the tests in Rust: `re` takes 4 to 28 seconds for the 24 starts
+# that are tried.
+white_behind = M.ljust(16777216)
+assert read(white_behind, 1, 1).out == F and index(white_behind, 1, 6).out == [1, 0, 16777216, 11, 1, 1]
+check_over(white_behind + b" ")
+check_longest(b"L" * 17, random.randbytes(258110 * 48))  # full lines, and more data than is written
+check_fullest(SHORTEST * 559240)
+assert size(b"L" * 64, bytes(8388608)) == 11359735
+check_write(b"L" * 64, random.randbytes(8388608))
 print("ok")

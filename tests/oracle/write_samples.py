@@ -6,15 +6,14 @@ import random
 import sys
 
 import oracle
-from forms import RESERVED, Samples, examples, form
+from forms import BUFFER, RESERVED, Samples, examples, form, text_of
 
 samples = Samples()
 comment = samples.comment
-MOST = 49152
 
 
 def put(mode, name, room, head, data, length=0, count=1):
-    assert ":" not in head and room <= MOST
+    assert ":" not in head and max(room, len(text_of(head, count)), len(text_of(data, count)) + length) <= BUFFER, name
     samples.put(mode, name, room, count, length, head, data)
 
 
@@ -67,30 +66,31 @@ for name, label in (
 ):
     write("no-label-" + name, label)
 
-comment("Data of 0 to 32,769 bytes, and their room: exact, one less, one more, many more, none.")
-for n in (*range(7), 46, 47, 48, 49, 50, 95, 96, 97, 143, 144, 145, 256, 512, 513, 32767, 32768, 32769):
+comment("Data of 0 to 48,369 bytes, and their room: exact, one less, one more, many more, none.")
+for n in (*range(7), 46, 47, 48, 49, 50, 95, 96, 97, 143, 144, 145, 256, 512, 513, *range(32767, 32770), *range(48367, 48370)):
     exact = needed(b"A", n)
     back("data-%d" % n, b"A", b"", exact, n)
-    for room in (exact - 1, exact + 1, MOST if n > 1000 else 1000, 0):
+    for room in (exact - 1, exact + 1, BUFFER if n > 1000 else 1000, 0):
         write("data-%d" % n, b"A", b"", room, n)
 for text in (b"\0", b"\xff", b"\0\0", b"\xff\xff", b"\0\0\0", b"\xff\xff\xff", b"f", b"fo", b"foo", b"foob", b"fooba", b"foobar"):
     back("bytes-" + text.hex(), b"A", text)
 put("back", "zeros-48", 300, "A", "{*}", count=48)
 put("back", "ones-49", 300, "A", "{^}", count=49)
-put("back", "zeros-32768", MOST, "A", "{*}", count=32768)
-put("write", "zeros-32769", MOST, "A", "{*}", count=32769)
+put("back", "zeros-48369", BUFFER, "A", "{*}", count=48369)
 
-comment("The longest text.")
-back("longest", b"L" * 64, b"", 44535, 32768)
-for room in (44534, 44536, MOST, 0):
-    write("longest", b"L" * 64, b"", room, 32768)
-for label, n in ((b"L" * 63, 32768), (b"L" * 64, 32767), (b"L" * 64, 32766), (b"", 32768)):
-    back("nearly-longest-%d-%d" % (len(label), n), label, b"", needed(label, n), n)
+comment("The most data whose text fits, and their room: exact, one less, none; and one byte more.")
+for label, n in ((b"", 48372), (b"AB", 48369), (b"L" * 63, 48279), (b"L" * 64, 48276)):
+    name, exact = "label-%d-data" % len(label), needed(label, n)
+    assert exact <= BUFFER < needed(label, n + 1)
+    back("%s-%d" % (name, n), label, b"", exact, n)
+    for room in (exact - 1, 0):
+        write("%s-%d" % (name, n), label, b"", room, n)
+    write("%s-%d" % (name, n + 1), label, b"", BUFFER, n + 1)
 
-comment("The order of the checks: label's length, label, no data, data's length, room.")
+comment("The order of the checks: label's length, label, no data, room. Data over the limit do not fit here.")
 for name, label in (("long", b"L" * 64 + b"-"), ("no-label", b"A-"), ("label", b"A")):
-    for n in (0, 1, 32769):
-        for room in (0, 39, MOST):
+    for n in (0, 1, BUFFER):
+        for room in (0, 39, BUFFER):
             write("order-%s-%d" % (name, n), label, b"", room, n)
 write("order-long-label-room", b"L" * 65, room=0)
 write("order-label-64-no-data", b"L" * 64, b"", room=0)
@@ -112,10 +112,9 @@ restore("spare-bits", M.replace(b"Zg", b"Zh"))
 restore("no-last-LF", M[:-1])
 restore("no-data", oracle.written(b"A", b""))
 restore("label-65", oracle.written(b"L" * 65, b"f"))
-LONGEST = "-----BEGIN {0}-----$\n{{{1}$}}%s$\n-----END {0}-----$".format("L" * 64, FULL)
-put("restore", "longest", 44535, LONGEST % (FULL[:40] + "//8="), "", count=682)
-put("restore", "longest", 44534, LONGEST % (FULL[:40] + "//8="), "", count=682)
-put("restore", "data-32769", MOST, LONGEST % FULL[:44], "", count=682)
+LONGEST = "-----BEGIN {0}-----$\n{{{1}$}}{2}//8=$\n-----END {0}-----$".format("L" * 63, FULL, FULL[:48])
+for room in (65536, 65535):
+    put("restore", "longest", room, LONGEST, "", count=1005)
 
 comment("Round trips of the examples of draft-josefsson-pkix-textual-00, in their order.")
 for name, example in examples(sys.argv[1]):

@@ -31,8 +31,8 @@ use support::fields;
 // Room for all samples.
 const FORMS_SIZE: usize = 131072;
 
-// One byte more than is read.
-const TEXT_SIZE: usize = 65537;
+// Room for the text of a sample.
+const TEXT_SIZE: usize = 65536;
 
 fn run(form: &[u8], text: &[u8]) {
     let name = fields::field(form, 1);

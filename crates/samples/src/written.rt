@@ -8,8 +8,8 @@ use support::fields;
 use support::lent;
 use support::print;
 
-// What a text is read back into: one byte more than may be written.
-const DATA_SIZE: usize = 32769;
+// What a text is read back into: no text that fits 65,536 bytes holds more, since four characters give three.
+const DATA_SIZE: usize = 49152;
 
 // The line of what is written; where it is to be read back, then those of what is read.
 fn write(name: &[u8], label: &[u8], data: &[u8], room: usize, back: bool) {
