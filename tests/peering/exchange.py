@@ -7,6 +7,7 @@ BUNDLE_COUNTS = [1, 2, 5, 40]
 BUNDLES = "bundles of 1 to 40 certificates"
 CHAIN_KEYS = ["RSA", "P-256", "Ed25519", "P-384", "Ed448"]
 REMAINDERS = {0, 1, 2}
+LONG = 65_536
 EVERY_REMAINDER = [tools.CERTIFICATE, tools.REQUEST, tools.CRL, tools.PKCS7, tools.PUBLIC_KEY, tools.PRIVATE_KEY]
 
 
@@ -90,6 +91,14 @@ def all_lengths(tally, things):
         found = {len(thing.data) % 3 for thing in things if thing.kind == kind}
         if found != REMAINDERS:
             tally.failures.append(f"{kind}: lengths modulo 3 are {sorted(found)} only")
+
+
+def a_long_crl(tally, things):
+    """The data of one CRL, and so its text, have more than 65,536 bytes, or the run has tried too little."""
+    longest = max(len(thing.data) for thing in things if thing.kind == tools.CRL)
+    tally.note(f"the longest CRL has {longest} bytes of data")
+    if longest <= LONG:
+        tally.failures.append(f"{tools.CRL}: {longest} bytes at most")
 
 
 def bundles(tally, ours, peers, maker):

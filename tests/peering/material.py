@@ -32,7 +32,9 @@ LARGE_SECTION = """
 1.2.3.4 = DER:{octets}
 """
 LARGE_EXTENSION = 49_000
-REVOKED = "R\t351231235959Z\t260101000000Z\t05\tunknown\t/CN=revoked\n"
+# A line of openssl's database: revoked, with the days of expiry and of revocation, and a serial number.
+REVOKED = "R\t351231235959Z\t260101000000Z\t{serial}\tunknown\t/CN=revoked\n"
+FEW, MANY = 1, 5_000
 SIGNING_KEYS = {
     "RSA": ["RSA", "-pkeyopt", "rsa_keygen_bits:2048"],
     "P-256": ["EC", "-pkeyopt", "ec_paramgen_curve:P-256"],
@@ -62,10 +64,14 @@ class Maker:
         self.folder = folder
         self.openssl = tools.Openssl(folder)
         self.write("openssl.cnf", CONFIGURATION)
-        self.write("index.txt", REVOKED)
+        self.revoke(FEW)
 
     def write(self, name, text):
         tools.stored(self.folder, name, text.encode())
+
+    def revoke(self, count):
+        """Serial numbers of 16 octets, as authorities give them."""
+        self.write("index.txt", "".join(REVOKED.format(serial=f"{2**126 + i:032X}") for i in range(count)))
 
     def key(self, name, words):
         self.openssl.call("genpkey", "-algorithm", *words, "-out", name)
@@ -83,6 +89,12 @@ class Maker:
         tools.stored(self.folder, "issuer", certificate)
         text = self.openssl.call("ca", "-gencrl", "-keyfile", key, "-cert", "issuer", "-crldays", DAYS)
         return self.openssl.convert(tools.CRL, text, "PEM", "DER")
+
+    def large_crl(self, key):
+        self.revoke(MANY)
+        data = self.crl(key, self.self_signed(key, "large"))
+        self.revoke(FEW)
+        return Thing(tools.CRL, f"{key}, {MANY} revoked", data)
 
     def pkcs7(self, certificates):
         tools.stored(self.folder, "chain", b"".join(map(plain_pem, certificates)))
@@ -113,7 +125,8 @@ class Maker:
         signing = [self.key(name, words) for name, words in SIGNING_KEYS.items()]
         others = [self.key(name, words) for name, words in OTHER_KEYS.items()]
         signed = [thing for key in signing for name in NAMES for thing in self.signed_things(key, name)]
-        return signed + [thing for key in signing + others for thing in self.key_things(key)]
+        keys = [thing for key in signing + others for thing in self.key_things(key)]
+        return signed + [self.large_crl("P-256")] + keys
 
     def chain(self, keys):
         """A root certificate and one below the other, of the keys given."""
@@ -132,7 +145,7 @@ class Maker:
         """A certificate that is the same in each run: its key, serial number and days are fixed."""
         tools.stored(self.folder, "settled", ED25519_START + bytes(range(32)))
         tools.stored(self.folder, "request", self.request("settled", name))
-        self.write("index.txt", REVOKED)  # openssl ca gives a serial number once only
+        self.revoke(FEW)  # openssl ca gives a serial number once only
         self.write("serial", "07\n")
         text = self.openssl.call(
             "ca", "-batch", "-selfsign", "-keyfile", "settled", "-inform", "DER", "-in", "request", "-notext",
@@ -140,7 +153,7 @@ class Maker:
         return self.openssl.convert(tools.CERTIFICATE, text, "PEM", "DER")
 
     def settled_large(self):
-        """A settled certificate with an extension that makes its text longer than we read."""
+        """A settled certificate with an extension that makes its text longer than 65,536 bytes."""
         self.write("large.cnf", LARGE_SECTION.format(octets=octets_in_hex(LARGE_EXTENSION)))
         return self.settled("a", "-extfile", "large.cnf", "-extensions", "large")
 

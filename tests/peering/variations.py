@@ -6,10 +6,10 @@ import collections
 import itertools
 
 import material
+from oracle import ALPHABET, TEXT_LIMIT
 
 LABEL = b"CERTIFICATE"
 OPENING, CLOSING = b"-----BEGIN CERTIFICATE-----\n", b"-----END CERTIFICATE-----\n"
-ALPHABET = b"ABCDEFGHIJKLMNOPQRSTUVWXYZabcdefghijklmnopqrstuvwxyz0123456789+/"
 MIDDLE = 100  # a place within a line of the body
 LINE_ENDS = [b"\n", b"\r\n", b"\r"]
 SUBJECT = b"Subject: CN=a\nIssuer: CN=a\n"
@@ -17,6 +17,7 @@ ENCRYPTED = b"Proc-Type: 4,ENCRYPTED\nDEK-Info: AES-128-CBC,00000000000000000000
 OTHER_HEADER = b"Comment: none\n\n"
 MANY = 200
 FILLS, END_TO_END = "one message fills the text", "a bundle is messages end to end"
+ONE_LINE_END = "standard: at most one line end at the end"
 
 # data: the data of the messages that the text is meant to hold, in order. Where one is no certificate, it is given in
 # `ours` alone, since the peers' readers of certificates are not asked for it. read_rule: a rule of read's own.
@@ -56,7 +57,7 @@ def line_ends(s):
         s.one("CR alone", s.text.replace(b"\n", b"\r"), "a line end is CRLF, CR or LF"),
         s.one("LF, CRLF and CR mixed", mixed, "a line end is CRLF, CR or LF"),
         s.one("no last line end", s.text[:-1], "strict: line end behind the closing"),
-        s.one("a blank line after", s.text + b"\n", "standard: at most one line end at the end"),
+        s.one("a blank line after", s.text + b"\n", ONE_LINE_END),
         s.one("spaces after the closing", s.text[:-1] + b"  \n", "strict: no blanks"),
     ]
 
@@ -194,16 +195,19 @@ def run_together(s):
     ]
 
 
-def limits(s):
+def lengths(s):
+    """Long texts, one at our limit and one over it."""
+    white_behind = lambda length, rule: s.one(f"{length:,} bytes with white behind", s.text.ljust(length, b"\n"), rule)
     return [
-        Variation("a certificate of over 65,536 bytes of text", material.plain_pem(s.large), [s.large],
-                  "text over 65,536 bytes"),
-        Variation("a bundle of over 65,536 bytes", s.text * MANY, [s.data] * MANY, "text over 65,536 bytes"),
-        s.one("65,537 bytes with white behind", s.text.ljust(65_537, b"\n"), "text over 65,536 bytes"),
+        Variation("a certificate of over 65,536 bytes of text", material.plain_pem(s.large), [s.large], "strict text"),
+        Variation("a bundle of over 65,536 bytes", s.text * MANY, [s.data] * MANY, END_TO_END, read_rule=FILLS),
+        white_behind(65_537, ONE_LINE_END),
+        white_behind(TEXT_LIMIT, ONE_LINE_END),
+        white_behind(TEXT_LIMIT + 1, f"text over {TEXT_LIMIT:,} bytes"),
     ]
 
 
 def all_of(maker):
     samples = Samples(maker)
-    groups = [line_ends, beside, blanks, widths, pads, other_bytes, boundaries, several, run_together, limits]
+    groups = [line_ends, beside, blanks, widths, pads, other_bytes, boundaries, several, run_together, lengths]
     return [variation for group in groups for variation in group(samples)]
