@@ -47,16 +47,10 @@ enum zullifern_number {
     ZULLIFERN_WRITE_DATA_TOO_LONG = 14   /* the data are over ZULLIFERN_DATA_LIMIT bytes */
 };
 
-/* Limits, in bytes; the table's in numbers. */
-#define ZULLIFERN_TEXT_LIMIT 65536
+/* Limits, in bytes. */
+#define ZULLIFERN_TEXT_LIMIT 16777216
 #define ZULLIFERN_LABEL_LIMIT 64
-#define ZULLIFERN_DATA_LIMIT 32768
-/* Room for the data of any text within its limit: four characters give three bytes. */
-#define ZULLIFERN_READ_LIMIT 49152
-/* The most that is written. */
-#define ZULLIFERN_WRITTEN_LIMIT 44535
-/* The most numbers that a table needs: a text within its limit has at most 2184 messages. */
-#define ZULLIFERN_TABLE_LIMIT 10921
+#define ZULLIFERN_DATA_LIMIT 8388608
 
 /* How many numbers of a table belong to one message, and how many the table of so many messages has. */
 #define ZULLIFERN_ENTRY_NUMBERS 5
@@ -65,6 +59,24 @@ enum zullifern_number {
 /* How many bytes the text has that is written of a label and data of these lengths, both within their limits. */
 #define ZULLIFERN_WRITTEN_SIZE(label_length, data_length)                                                                 \
     (32 + 2 * (size_t)(label_length) + 4 * (((size_t)(data_length) + 2) / 3) + ((size_t)(data_length) + 47) / 48)
+
+/* Room for the data of any text of this length: four characters give three bytes. */
+#define ZULLIFERN_READ_BOUND(text_length) ((size_t)(text_length) / 4 * 3)
+
+/* The bytes of the shortest message: both boundaries with an empty label and nothing between them, which lax takes. */
+#define ZULLIFERN_MESSAGE_LEAST 30
+
+/* Room for the table of any text of this length, in numbers. */
+#define ZULLIFERN_TABLE_BOUND(text_length) ZULLIFERN_TABLE_SIZE((size_t)(text_length) / ZULLIFERN_MESSAGE_LEAST)
+
+/*
+ * The same at the limits: room for the data of any text, 12,582,912 bytes, for any text that is written, 11,359,735 bytes, and
+ * for any table, 2,796,201 numbers (of 559,240 messages). Buffers of these sizes belong on no stack. Each call writes the whole
+ * of what it is lent, so rather lend what your own input needs, by the above.
+ */
+#define ZULLIFERN_READ_LIMIT ZULLIFERN_READ_BOUND(ZULLIFERN_TEXT_LIMIT)
+#define ZULLIFERN_WRITTEN_LIMIT ZULLIFERN_WRITTEN_SIZE(ZULLIFERN_LABEL_LIMIT, ZULLIFERN_DATA_LIMIT)
+#define ZULLIFERN_TABLE_LIMIT ZULLIFERN_TABLE_BOUND(ZULLIFERN_TEXT_LIMIT)
 
 /* What a call tells of its answer: eight numbers, all of which each call sets. */
 struct zullifern_report {

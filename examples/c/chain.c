@@ -14,10 +14,14 @@
 
 static const char CERTIFICATE[] = "CERTIFICATE";
 
-/* One byte more than is read, so that a longer input is answered as too long. */
-static uint8_t text[ZULLIFERN_TEXT_LIMIT + 1];
-static uint32_t table[ZULLIFERN_TABLE_LIMIT];
-static uint8_t der[ZULLIFERN_READ_LIMIT];
+/* The longest chain that this program takes, in bytes, and what it needs for any chain of this length. */
+#define CHAIN_LIMIT 65536
+#define TABLE_NUMBERS ZULLIFERN_TABLE_BOUND(CHAIN_LIMIT)
+
+/* One byte more than is taken, so that a longer input is noticed. */
+static uint8_t text[CHAIN_LIMIT + 1];
+static uint32_t table[TABLE_NUMBERS];
+static uint8_t der[ZULLIFERN_READ_BOUND(CHAIN_LIMIT)];
 
 static const char *meaning(uint32_t number)
 {
@@ -34,10 +38,9 @@ static const char *meaning(uint32_t number)
     }
 }
 
-static int refused(const struct zullifern_report *report)
+static int refused(uint64_t number, uint64_t place)
 {
-    printf("refused with %u at offset %u: %s\n", (unsigned)report->number, (unsigned)report->place,
-           meaning((uint32_t)report->number));
+    printf("refused with %u at offset %u: %s\n", (unsigned)number, (unsigned)place, meaning((uint32_t)number));
     return 1;
 }
 
@@ -56,7 +59,7 @@ static int show(unsigned k, const struct zullifern_entry *entry)
         return 1;
     }
     if (zullifern_read(text + entry->start, entry->length, ZULLIFERN_LAX, der, sizeof der, &report) != ZULLIFERN_ACCEPTED)
-        return refused(&report);
+        return refused(report.number, report.place);
     printf("%u: certificate of %u bytes at offset %u, starting %02x %02x\n", k, (unsigned)report.size,
            (unsigned)entry->start, der[0], der[1]);
     return 0;
@@ -73,8 +76,10 @@ int main(void)
         printf("standard input cannot be read\n");
         return 1;
     }
-    if (zullifern_index(text, length, ZULLIFERN_LAX, table, ZULLIFERN_TABLE_LIMIT, &report) != ZULLIFERN_ACCEPTED)
-        return refused(&report);
+    if (length > CHAIN_LIMIT)
+        return refused(ZULLIFERN_TEXT_TOO_LONG, 0);
+    if (zullifern_index(text, length, ZULLIFERN_LAX, table, TABLE_NUMBERS, &report) != ZULLIFERN_ACCEPTED)
+        return refused(report.number, report.place);
     for (uint32_t k = 0; k < table[0] && status == 0; k++) {
         memcpy(&entry, table + ZULLIFERN_TABLE_SIZE(k), sizeof entry);
         status = show(k + 1, &entry);

@@ -1,20 +1,30 @@
 /* The header against the library: each number that it names is given for the input that it is named for, its sizes are the
  * library's, and its structs lie over what the calls fill. Prints what fails; exit status 0 only where nothing does. */
+#include <assert.h>
 #include <stdio.h>
 #include <string.h>
 
 #include "zullifern.h"
 
 #define M "-----BEGIN A-----\nZg==\n-----END A-----\n"
+#define OPENING "-----BEGIN -----"
+#define CLOSING "-----END -----"
+#define SHORTEST OPENING CLOSING
 #define LABEL_65 "AAAAAAAAAAAAAAAAAAAAAAAAAAAAAAAAAAAAAAAAAAAAAAAAAAAAAAAAAAAAAAAAA"
 
-_Static_assert(sizeof(struct zullifern_report) == 8 * sizeof(uint64_t), "a report is eight numbers");
-_Static_assert(sizeof(struct zullifern_entry) == ZULLIFERN_ENTRY_NUMBERS * sizeof(uint32_t), "an entry is five numbers");
-_Static_assert(ZULLIFERN_WRITTEN_SIZE(ZULLIFERN_LABEL_LIMIT, ZULLIFERN_DATA_LIMIT) == ZULLIFERN_WRITTEN_LIMIT, "largest text");
-_Static_assert(ZULLIFERN_TABLE_SIZE(ZULLIFERN_TEXT_LIMIT / 30) == ZULLIFERN_TABLE_LIMIT, "largest table");
+/* The most groups of four characters, and the most messages, that a text within its limit has. */
+#define MOST_GROUPS ((ZULLIFERN_TEXT_LIMIT - ZULLIFERN_MESSAGE_LEAST) / 4)
+#define MOST_MESSAGES 559240
+
+static_assert(sizeof(struct zullifern_report) == 8 * sizeof(uint64_t), "a report is eight numbers");
+static_assert(sizeof(struct zullifern_entry) == ZULLIFERN_ENTRY_NUMBERS * sizeof(uint32_t), "an entry is five numbers");
+static_assert(ZULLIFERN_TEXT_LIMIT == 16777216 && ZULLIFERN_DATA_LIMIT == 8388608, "limits of what comes in");
+static_assert(ZULLIFERN_READ_LIMIT == 12582912 && ZULLIFERN_WRITTEN_LIMIT == 11359735, "limits of what is lent");
+static_assert(ZULLIFERN_TABLE_LIMIT == 2796201 && ZULLIFERN_TABLE_SIZE(MOST_MESSAGES) == 2796201, "the largest table");
+static_assert(sizeof SHORTEST - 1 == ZULLIFERN_MESSAGE_LEAST, "the shortest message");
 
 static uint8_t text[ZULLIFERN_TEXT_LIMIT + 1];
-static uint8_t out[ZULLIFERN_TEXT_LIMIT];
+static uint8_t out[ZULLIFERN_READ_LIMIT];
 static uint32_t table[ZULLIFERN_TABLE_LIMIT];
 static uint8_t data[ZULLIFERN_DATA_LIMIT + 1];
 static int failed;
@@ -48,7 +58,6 @@ static void writes(const char *label, size_t size, size_t room, uint32_t number)
 
 static void numbers_of_read(void)
 {
-    struct zullifern_report report;
     reads(M, ZULLIFERN_STRICT, 1, ZULLIFERN_ACCEPTED, 0);
     reads(M, 4, 1, ZULLIFERN_UNKNOWN_GRAMMAR, 0);
     reads("-----begin", ZULLIFERN_LAX, 1, ZULLIFERN_OPENING, 5);
@@ -60,8 +69,6 @@ static void numbers_of_read(void)
     reads("-----BEGIN A-----\nZh==\n-----END A-----\n", ZULLIFERN_STRICT, 1, ZULLIFERN_SPARE_BITS, 19);
     reads("-----BEGIN A-----\nZh==\n-----END A-----\n", ZULLIFERN_STANDARD, 1, ZULLIFERN_ACCEPTED, 0);
     reads(M, ZULLIFERN_LAX, 0, ZULLIFERN_NO_ROOM, 0);
-    same("a long text", zullifern_read(text, sizeof text, ZULLIFERN_LAX, out, 1, &report), ZULLIFERN_TEXT_TOO_LONG);
-    same("a text at the limit", zullifern_read(text, ZULLIFERN_TEXT_LIMIT, ZULLIFERN_LAX, out, 1, &report), ZULLIFERN_OPENING);
 }
 
 static void label_call(void)
@@ -79,7 +86,8 @@ static void index_call(void)
     uint8_t *end = text;
     for (int k = 0; k < 2; k++)
         end = (uint8_t *)memcpy(end, M, strlen(M)) + strlen(M);
-    same("the index call", zullifern_index(text, (size_t)(end - text), ZULLIFERN_STRICT, table, ZULLIFERN_TABLE_LIMIT, &report), 0);
+    same("the index call",
+         zullifern_index(text, (size_t)(end - text), ZULLIFERN_STRICT, table, ZULLIFERN_TABLE_SIZE(2), &report), 0);
     same("the table's size", report.size, ZULLIFERN_TABLE_SIZE(2));
     same("the count", table[0], 2);
     memcpy(&entry, table + ZULLIFERN_TABLE_SIZE(1), sizeof entry);
@@ -95,10 +103,48 @@ static void numbers_of_write(void)
     writes(LABEL_65, 1, sizeof out, ZULLIFERN_WRITE_LABEL_TOO_LONG);
     writes("A-", 1, sizeof out, ZULLIFERN_WRITE_NOT_A_LABEL);
     writes("A", 0, sizeof out, ZULLIFERN_WRITE_NO_DATA);
-    writes("A", sizeof data, sizeof out, ZULLIFERN_WRITE_DATA_TOO_LONG);
     for (size_t size = 1; size <= 200; size++)
         writes("RSA PRIVATE KEY", size, ZULLIFERN_WRITTEN_SIZE(15, size) - size % 2, size % 2 ? ZULLIFERN_NO_ROOM : ZULLIFERN_ACCEPTED);
+}
+
+static void data_at_the_limit(void)
+{
+    writes("A", sizeof data, 1, ZULLIFERN_WRITE_DATA_TOO_LONG);
+    writes(LABEL_65 + 1, ZULLIFERN_DATA_LIMIT, ZULLIFERN_WRITTEN_LIMIT - 1, ZULLIFERN_NO_ROOM);
     writes(LABEL_65 + 1, ZULLIFERN_DATA_LIMIT, ZULLIFERN_WRITTEN_LIMIT, ZULLIFERN_ACCEPTED);
+}
+
+/* The most data that a text can hold, which white behind it brings to the limit. */
+static void text_at_the_limit(void)
+{
+    struct zullifern_report report;
+    memset(text, ' ', sizeof text);
+    memset(text, 'A', sizeof OPENING - 1 + 4 * MOST_GROUPS);
+    memcpy(text, OPENING, sizeof OPENING - 1);
+    memcpy(text + sizeof OPENING - 1 + 4 * MOST_GROUPS, CLOSING, sizeof CLOSING - 1);
+    same("a long text", zullifern_read(text, sizeof text, ZULLIFERN_LAX, out, 1, &report), ZULLIFERN_TEXT_TOO_LONG);
+    same("a text at the limit",
+         zullifern_read(text, ZULLIFERN_TEXT_LIMIT, ZULLIFERN_LAX, out, ZULLIFERN_READ_LIMIT, &report), ZULLIFERN_ACCEPTED);
+    same("the most data", report.size, 3 * MOST_GROUPS);
+}
+
+static void indexes(size_t length, size_t room, uint32_t number, uint64_t size)
+{
+    struct zullifern_report report;
+    same("the most messages", zullifern_index(text, length, ZULLIFERN_LAX, table, room, &report), number);
+    same("the size of their table", report.size, size);
+}
+
+/* The most messages that a text can hold, which white behind them brings to the limit. */
+static void table_at_the_limit(void)
+{
+    memset(text, ' ', sizeof text);
+    for (size_t k = 0; k < MOST_MESSAGES; k++)
+        memcpy(text + k * strlen(SHORTEST), SHORTEST, strlen(SHORTEST));
+    indexes(sizeof text, ZULLIFERN_TABLE_LIMIT, ZULLIFERN_TEXT_TOO_LONG, 0);
+    indexes(ZULLIFERN_TEXT_LIMIT, ZULLIFERN_TABLE_LIMIT - 1, ZULLIFERN_NO_ROOM, ZULLIFERN_TABLE_LIMIT);
+    indexes(ZULLIFERN_TEXT_LIMIT, ZULLIFERN_TABLE_LIMIT, ZULLIFERN_ACCEPTED, ZULLIFERN_TABLE_LIMIT);
+    same("their count", table[0], MOST_MESSAGES);
 }
 
 int main(void)
@@ -107,5 +153,8 @@ int main(void)
     label_call();
     index_call();
     numbers_of_write();
+    data_at_the_limit();
+    text_at_the_limit();
+    table_at_the_limit();
     return failed;
 }
