@@ -12,13 +12,13 @@
 //! it. The calls need no allocator; [`owned`] has them for those who have one (feature `alloc`, on by default).
 //!
 //! ```
-//! use zullifern::{Grammar, TABLE_LIMIT};
+//! use zullifern::{table_bound, Grammar};
 //!
 //! let chain = b"-----BEGIN CERTIFICATE-----\nbGVhZg==\n-----END CERTIFICATE-----\n\
 //!               -----BEGIN CERTIFICATE-----\ncm9vdA==\n-----END CERTIFICATE-----\n";
-//! let mut table = [0; TABLE_LIMIT];
-//! let mut out = [0; 100];
+//! let mut table = vec![0; table_bound(chain.len())];
 //! for entry in zullifern::index(chain, Grammar::Strict, &mut table)? {
+//!     let mut out = vec![0; entry.data_size];
 //!     let message = zullifern::read(entry.text, Grammar::Strict, &mut out)?;
 //!     println!("{} at {}: {:?}", entry.label, entry.start, message.data);
 //! }
@@ -58,18 +58,22 @@ pub use refusal::{Refusal, WriteRefusal};
 use raw::Report;
 
 /// The most bytes that a text may have to be read or indexed.
-pub const TEXT_LIMIT: usize = 65_536;
+pub const TEXT_LIMIT: usize = 16_777_216;
 
 /// The most bytes that a label may have.
 pub const LABEL_LIMIT: usize = 64;
 
 /// The most bytes that data may have to be written.
-pub const DATA_LIMIT: usize = 32_768;
+pub const DATA_LIMIT: usize = 8_388_608;
 
-/// The most bytes that [`write`](write()) writes.
+/// Room for the data of any text: 12,582,912 bytes, which belong on a heap. [`data_bound`] is that of one text.
+pub const READ_LIMIT: usize = data_bound(TEXT_LIMIT);
+
+/// Room for any text that is written: 11,359,735 bytes, which belong on a heap. [`written_size`] is that of one text.
 pub const WRITTEN_LIMIT: usize = written_size(LABEL_LIMIT, DATA_LIMIT);
 
-/// The most numbers that the table of an index needs.
+/// Room for the table of any text: 2,796,201 numbers or 11,184,804 bytes, which belong on a heap. [`table_bound`] is that of
+/// one text, and [`table_size`] that of so many messages.
 pub const TABLE_LIMIT: usize = table_bound(TEXT_LIMIT);
 
 /// How many numbers a table has for each message.
@@ -83,14 +87,32 @@ pub const fn table_size(count: usize) -> usize {
     1 + ENTRY_NUMBERS * count
 }
 
-/// As many numbers as the table of a text of this length can have.
+/// Room for the table of any text of this length, in numbers. A text over [`TEXT_LIMIT`] needs no more, for it is refused.
+///
+/// ```
+/// assert_eq!(zullifern::table_bound(1_000), zullifern::table_size(33));
+/// ```
 pub const fn table_bound(text_length: usize) -> usize {
-    let read = if text_length < TEXT_LIMIT {
+    table_size(within_limit(text_length) / MESSAGE_LEAST)
+}
+
+/// Room for the data of any text of this length, in bytes: four characters give three. A text over [`TEXT_LIMIT`] needs no
+/// more, for it is refused.
+///
+/// ```
+/// assert_eq!(zullifern::data_bound(1_000), 750);
+/// ```
+pub const fn data_bound(text_length: usize) -> usize {
+    within_limit(text_length) / 4 * 3
+}
+
+/// How much is read at most of a text of this length.
+const fn within_limit(text_length: usize) -> usize {
+    if text_length < TEXT_LIMIT {
         text_length
     } else {
         TEXT_LIMIT
-    };
-    table_size(read / MESSAGE_LEAST)
+    }
 }
 
 /// How many bytes the text has that is written of a label and data of these lengths, both within their limits.
@@ -109,7 +131,7 @@ pub struct Message<'t, 'o> {
     pub data: &'o [u8],
 }
 
-/// Reads one message that fills the whole text.
+/// Reads one message that fills the whole text. `vec![0; `[`data_bound`]`(text.len())]` has room for its data.
 ///
 /// ```
 /// use zullifern::{Grammar, Refusal};
@@ -157,8 +179,8 @@ pub fn label(text: &[u8], grammar: Grammar) -> &str {
 
 /// Lists the messages of a bundle: zero or more, end to end, that fill the whole text.
 ///
-/// A table of [`TABLE_LIMIT`] numbers holds the index of any text within the limit; one of n messages needs
-/// [`table_size`]`(n)`.
+/// The table of n messages needs [`table_size`]`(n)` numbers. Where their count is not known,
+/// `vec![0; `[`table_bound`]`(text.len())]` has room for it.
 ///
 /// ```
 /// use zullifern::{Grammar, Refusal};

@@ -38,8 +38,8 @@ fn place(offset: usize, line: usize, column: usize, at_end: bool) -> Place {
 fn refusals_of_read() -> Vec<(String, Grammar, Refusal, &'static str)> {
     let long = "A".repeat(65);
     vec![
-        ("-".repeat(65_537), Grammar::Lax, Refusal::TextTooLong { length: 65_537 },
-         "the text has 65537 bytes; at most 65536 are read"),
+        ("-".repeat(16_777_217), Grammar::Lax, Refusal::TextTooLong { length: 16_777_217 },
+         "the text has 16777217 bytes; at most 16777216 are read"),
         (M.replace("BEGIN", "begin"), Grammar::Lax, Refusal::Opening { place: place(5, 1, 6, false) },
          "the text goes wrong in the opening boundary, at line 1, column 6 (offset 5)"),
         (String::new(), Grammar::Strict, Refusal::Opening { place: place(0, 1, 1, true) },
@@ -78,7 +78,7 @@ fn each_refusal_of_read_has_its_number_place_and_text() {
 fn places_are_those_of_the_refusals_that_have_one() {
     assert_eq!(read_refusal("x", Grammar::Lax).place(), Some(place(0, 1, 1, false)));
     assert_eq!(Refusal::OutputTooSmall { needed: 9 }.place(), None);
-    assert_eq!(Refusal::TextTooLong { length: 70_000 }.place(), None);
+    assert_eq!(Refusal::TextTooLong { length: 16_777_217 }.place(), None);
 }
 
 #[test]
@@ -143,9 +143,9 @@ fn each_refusal_of_write_has_its_number_and_text() {
         ),
         (write_refusal("A", b""), 13, "there are no data to write"),
         (
-            write_refusal("A", &[0; 32_769]),
+            write_refusal("A", &vec![0; 8_388_609]),
             14,
-            "the data have 32769 bytes; at most 32768 are written",
+            "the data have 8388609 bytes; at most 8388608 are written",
         ),
         (
             write_refusal("A", b"f"),
@@ -195,25 +195,6 @@ fn an_empty_label_and_an_empty_output_are_answers_too() {
 }
 
 #[test]
-fn limits_are_those_of_the_library() {
-    assert_eq!((zullifern::WRITTEN_LIMIT, zullifern::TABLE_LIMIT), (44_535, 10_921));
-    let label = "A".repeat(zullifern::LABEL_LIMIT);
-    let data = vec![0x5A; zullifern::DATA_LIMIT];
-    let mut out = vec![0xAA; zullifern::WRITTEN_LIMIT];
-    assert_eq!(
-        zullifern::write(&label, &data, &mut out).unwrap().len(),
-        zullifern::WRITTEN_LIMIT
-    );
-    let most = b"-----BEGIN ----------END -----".repeat(zullifern::TEXT_LIMIT / 30);
-    let mut table = vec![0; zullifern::TABLE_LIMIT];
-    assert_eq!(zullifern::index(&most, Grammar::Lax, &mut table).unwrap().len(), 2184);
-    assert_eq!(
-        zullifern::index(&most, Grammar::Lax, &mut table[1..]),
-        Err(Refusal::TableTooSmall { needed: 10_921 })
-    );
-}
-
-#[test]
 fn grammars_have_numbers_and_names() {
     for grammar in Grammar::ALL {
         assert_eq!(Grammar::try_from(grammar.number()), Ok(grammar));
@@ -247,19 +228,5 @@ fn a_chain_of_certificates_is_read_whole_and_written_again() {
             .unwrap_err()
             .number(),
         5
-    );
-}
-
-#[cfg(feature = "alloc")]
-#[test]
-fn what_is_too_long_is_refused_without_the_memory_for_it() {
-    let long = vec![b'A'; 1 << 20];
-    assert_eq!(
-        zullifern::owned::read(&long, Grammar::Lax),
-        Err(Refusal::TextTooLong { length: 1 << 20 })
-    );
-    assert_eq!(
-        zullifern::owned::write(&long, &long),
-        Err(WriteRefusal::LabelTooLong { length: 1 << 20 })
     );
 }

@@ -117,9 +117,14 @@ fn write_answers_as_the_raw_call_does() {
     let pairs = (0..=255).flat_map(|a| DAMAGES.iter().map(move |&b| vec![a, b]));
     let labels = pairs.chain([vec![], vec![b'A'; 64], vec![b'A'; 65]]);
     for label in labels {
-        for size in [0, 1, 2, 3, 48, 49, 32_768, 32_769] {
+        for size in [0, 1, 2, 3, 48, 49] {
             try_write(&label, &vec![0x5A; size], 60);
         }
         try_write(&label, &[0x5A; 49], 300);
+    }
+    for label in [vec![], vec![b'A'; 64], vec![b'A'; 65], vec![b'-']] {
+        for size in [zullifern::DATA_LIMIT, zullifern::DATA_LIMIT + 1] {
+            try_write(&label, &vec![0x5A; size], 60);
+        }
     }
 }
