@@ -1,15 +1,15 @@
-//! The cases that are the same in every run: samples, limits, and small spaces of inputs in full.
+//! The cases that are the same in every run: samples, long texts, and small spaces of inputs in full.
 
-use crate::paper::{BEGIN, DATA_LIMIT, END, HYPHENS, LABEL_LIMIT, TEXT_LIMIT};
+use crate::paper::{BEGIN, END, HYPHENS, LABEL_LIMIT};
 use crate::random::Random;
 use crate::samples::{m_with, rows, M};
-use crate::texts::{label_of, long_message, stretched};
+use crate::texts::{label_of, long_message, stretched, LONG_DATA, LONG_TEXT};
 use crate::trial::{Rooms, Trial};
 
 pub const UNKNOWN_GRAMMARS: [u32; 8] = [0, 4, 5, 255, 257, 0x0001_0002, 0x8000_0003, u32::MAX];
 const LINE_ENDS: [&[u8]; 4] = [b"", b"\n", b"\r", b"\r\n"];
-const SMALLEST_MESSAGE: &[u8] = b"-----BEGIN ----------END -----";
-const DATA_LENGTHS: [usize; 10] = [0, 1, 2, 3, 47, 48, 49, DATA_LIMIT - 1, DATA_LIMIT, DATA_LIMIT + 1];
+pub const SMALLEST_MESSAGE: &[u8] = b"-----BEGIN ----------END -----";
+const DATA_LENGTHS: [usize; 10] = [0, 1, 2, 3, 47, 48, 49, LONG_DATA - 1, LONG_DATA, LONG_DATA + 1];
 
 /// Texts whose line ends are tried in all mixtures.
 const LINES: [&str; 9] = [
@@ -153,9 +153,9 @@ fn in_bundles(trial: &mut Trial, message: &[u8]) {
     }
 }
 
-/// Texts around the limit: one message, many, and bytes that no message has.
+/// Long texts: one message, many, and bytes that no message has.
 fn text_lengths(trial: &mut Trial) {
-    let lengths = TEXT_LIMIT - 1..=TEXT_LIMIT + 1;
+    let lengths = LONG_TEXT - 1..=LONG_TEXT + 1;
     for (length, text) in lengths.flat_map(|length| long_texts(length).into_iter().map(move |text| (length, text))) {
         assert_eq!(text.len(), length);
         trial.text(&text, &mut Rooms::Edges);
@@ -184,7 +184,7 @@ fn long_texts(length: usize) -> Vec<Vec<u8>> {
     ]
 }
 
-/// Data around the limits, with labels around theirs.
+/// Data around the ends of groups and lines, and long ones, with labels around their limit.
 fn data_lengths(trial: &mut Trial, random: &mut Random) {
     let labels = [0, 1, LABEL_LIMIT - 1, LABEL_LIMIT, LABEL_LIMIT + 1].map(|length| label_of(length, random));
     let labels = labels.into_iter().chain([b"-A".to_vec()]);

@@ -6,7 +6,7 @@ use zullifern::raw::Report;
 const GUARD: usize = 16;
 
 /// A value that may be lent.
-pub trait Cell: Copy + PartialEq + Default + std::fmt::Debug {
+pub trait Cell: Copy + PartialEq + Default + Send + std::fmt::Debug {
     /// The old value, which is not zero, of a place in a case.
     fn old(case: u64, place: usize) -> Self;
 }

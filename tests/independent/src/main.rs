@@ -7,6 +7,7 @@
 mod bits;
 mod fixed;
 mod lent;
+mod limits;
 mod paper;
 #[cfg(test)]
 mod paper_tests;
@@ -36,6 +37,7 @@ fn main() {
     let started = Instant::now();
     let mut trial = Trial::new();
     fixed::run(&mut trial, &mut Random::new(SEED));
+    limits::run(&mut trial, &mut Random::new(SEED));
     let mut tally = std::mem::take(&mut trial.tally);
     let fixed = tally.total();
     rounds::run(&mut trial, &mut Random::new(seed), count);

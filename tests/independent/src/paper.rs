@@ -9,9 +9,9 @@ pub const STANDARD: u32 = 2;
 pub const STRICT: u32 = 3;
 pub const GRAMMARS: [u32; 3] = [LAX, STANDARD, STRICT];
 
-pub const TEXT_LIMIT: usize = 65_536;
+pub const TEXT_LIMIT: usize = 16_777_216;
 pub const LABEL_LIMIT: usize = 64;
-pub const DATA_LIMIT: usize = 32_768;
+pub const DATA_LIMIT: usize = 8_388_608;
 
 pub const BEGIN: &[u8] = b"-----BEGIN ";
 pub const END: &[u8] = b"-----END ";

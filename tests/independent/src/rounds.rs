@@ -4,11 +4,15 @@ use crate::fixed::UNKNOWN_GRAMMARS;
 use crate::paper::{table, Found, Message, BEGIN, DATA_LIMIT, GRAMMARS, TEXT_LIMIT};
 use crate::random::Random;
 use crate::samples::M;
-use crate::texts;
+use crate::texts::{self, LONG_DATA, LONG_TEXT};
 use crate::trial::{Rooms, Trial};
 
-/// One round in this many has a text or data around the limit, which takes long.
+/// One text in this many, and the data of one item in this many, is long, which takes time.
 const LONG: usize = 500;
+/// One in this many is over its limit: refused at once, but it takes memory.
+const OVER_LIMIT: usize = 1_000;
+/// By how much it is over.
+const OVER: usize = 3;
 /// One round in this many tries all rooms, if the text is not longer than this.
 const ALL_ROOMS: usize = 16;
 const SMALL_TEXT: usize = 200;
@@ -42,6 +46,9 @@ fn text(trial: &mut Trial, random: &mut Random) {
 }
 
 fn random_text(random: &mut Random) -> Vec<u8> {
+    if random.one_in(OVER_LIMIT) {
+        return text_over_limit(random);
+    }
     if random.one_in(LONG) {
         return long_text(random);
     }
@@ -56,9 +63,16 @@ fn random_text(random: &mut Random) -> Vec<u8> {
     }
 }
 
-/// A text near the limit: a long message or many messages, sometimes damaged.
+/// A text that lax would accept if it were shorter.
+fn text_over_limit(random: &mut Random) -> Vec<u8> {
+    let mut text = M.to_vec();
+    text.resize(TEXT_LIMIT + random.between(1, OVER), b' ');
+    text
+}
+
+/// A long message or many messages, sometimes damaged.
 fn long_text(random: &mut Random) -> Vec<u8> {
-    let length = random.between(TEXT_LIMIT - 3, TEXT_LIMIT + 2);
+    let length = random.between(LONG_TEXT - 3, LONG_TEXT + 2);
     let unit = match random.below(3) {
         0 => texts::long_message(&texts::label(random), length),
         1 => M.to_vec(),
@@ -98,7 +112,7 @@ fn written_list(trial: &mut Trial, random: &mut Random) {
             None => all_taken = false,
         }
     }
-    if all_taken && joined.len() <= TEXT_LIMIT {
+    if all_taken {
         let list = Ok(Found::unlabelled(table(&messages)));
         GRAMMARS
             .iter()
@@ -117,20 +131,24 @@ fn add_message(label: &[u8], data: Vec<u8>, text: &[u8], joined: &mut Vec<u8>, m
     });
 }
 
-/// A label or nearly one, and data, mostly of some lines.
+/// A label or nearly one, and data.
 fn item(random: &mut Random) -> (Vec<u8>, Vec<u8>) {
-    let length = match random.below(10) {
+    let length = data_length(random);
+    (texts::near_label(random), random.bytes(length))
+}
+
+/// Mostly of some lines.
+fn data_length(random: &mut Random) -> usize {
+    if random.one_in(OVER_LIMIT) {
+        return DATA_LIMIT + random.between(1, OVER);
+    }
+    if random.one_in(LONG) {
+        return random.between(LONG_DATA - 2, LONG_DATA + 1);
+    }
+    match random.below(10) {
         0 => 0,
         1..=4 => random.between(1, 10),
         5 | 6 => random.between(46, 50),
         _ => random.between(1, 300),
-    };
-    let long = random.one_in(LONG);
-    let length = if long {
-        random.between(DATA_LIMIT - 2, DATA_LIMIT + 1)
-    } else {
-        length
-    };
-    let label = texts::near_label(random);
-    (label, random.bytes(length))
+    }
 }

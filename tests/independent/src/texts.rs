@@ -4,6 +4,13 @@ use crate::bits;
 use crate::paper::{BEGIN, END, GRAMMARS, HYPHENS, LABEL_LIMIT, LAX, LINE, STANDARD};
 use crate::random::Random;
 
+/// A length around which many texts are tried, as long as a program's own buffer may be. At the limit each try takes long.
+pub const LONG_TEXT: usize = 65_536;
+/// The same for data to be written.
+pub const LONG_DATA: usize = 32_768;
+/// The character of which long messages are made.
+pub const FILLER: u8 = b'Q';
+
 const LABELS: [&[u8]; 8] = [
     b"A",
     b"CERTIFICATE",
@@ -310,7 +317,7 @@ pub fn bundle(r: &mut Random) -> Vec<u8> {
 /// A strict LF message of as many full lines as the length has room for.
 pub fn long_message(label: &[u8], length: usize) -> Vec<u8> {
     let ends = [BEGIN, label, HYPHENS, b"\n", END, label, HYPHENS, b"\n"];
-    let line = [b"Q".repeat(LINE).as_slice(), b"\n"].concat();
+    let line = [&[FILLER; LINE], b"\n".as_slice()].concat();
     let lines = (length - ends.concat().len()) / line.len();
     [&ends[..4].concat(), line.repeat(lines).as_slice(), &ends[4..].concat()].concat()
 }

@@ -4,6 +4,8 @@ use crate::lent::{Cell, Lent, LentReport};
 use crate::paper::{answer, label_part, Answer, Found, Judgement, Paper, BEGIN, DATA_LIMIT, GRAMMARS, STRICT};
 use crate::random::Random;
 use crate::tally::{Call, Tally};
+use crate::texts::LONG_TEXT;
+use std::thread;
 use zullifern::raw::{self, Report};
 
 /// A room that no result is too near to.
@@ -12,6 +14,11 @@ const LARGE: usize = 200;
 const BEYOND: usize = 2;
 /// No message is shorter.
 const SHORTEST_MESSAGE: usize = 30;
+/// A random input that is refused is lent no more than this: if it is over its limit it then costs its own memory alone.
+const LENT_IF_REFUSED: usize = LONG_TEXT;
+/// Of longer inputs a disagreement shows the ends alone, of this length each.
+const SHOWN_WHOLE: usize = 2 * LONG_TEXT;
+const SHOWN_END: usize = 200;
 
 /// Which rooms a call is tried with.
 pub enum Rooms<'a> {
@@ -19,6 +26,10 @@ pub enum Rooms<'a> {
     All,
     /// Those around the ends.
     Edges,
+    /// One less than the size, and the size.
+    Tight,
+    /// The size alone.
+    Exact,
     /// One with the size or more, and any one around the ends.
     Two(&'a mut Random),
 }
@@ -29,13 +40,20 @@ impl Rooms<'_> {
         match self {
             Rooms::All => (0..=size + BEYOND).collect(),
             Rooms::Edges => edges.to_vec(),
+            Rooms::Tight => edges[2..4].to_vec(),
+            Rooms::Exact => vec![size],
             Rooms::Two(random) => vec![random.pick(&edges[3..]), random.pick(&edges)],
         }
     }
 
     /// Rooms around the size of the result, or of what a careless call might leave where there is none.
     fn of<T>(&mut self, judgement: &Judgement<T>, size_if_refused: usize) -> Vec<usize> {
-        self.around(judgement.as_ref().map_or(size_if_refused, |found| found.result.len()))
+        let size = match (judgement, &self) {
+            (Ok(found), _) => found.result.len(),
+            (Err(_), Rooms::Two(_)) => size_if_refused.min(LENT_IF_REFUSED),
+            (Err(_), _) => size_if_refused,
+        };
+        self.around(size)
     }
 }
 
@@ -61,8 +79,8 @@ impl<'a> Input<'a> {
 
 /// What the paper says of a text under one grammar.
 pub struct Judged {
-    message: Judgement<u8>,
-    bundle: Judgement<u32>,
+    pub message: Judgement<u8>,
+    pub bundle: Judgement<u32>,
 }
 
 impl Judged {
@@ -77,6 +95,8 @@ impl Judged {
 pub struct Trial {
     paper: Paper,
     pub tally: Tally,
+    /// The stack of the library's calls, in bytes, where they are not to have that of the run.
+    pub stack: Option<usize>,
     cases: u64,
 }
 
@@ -85,33 +105,45 @@ impl Trial {
         Trial {
             paper: Paper::new(),
             tally: Tally::default(),
+            stack: None,
             cases: 0,
         }
     }
 
     /// All calls on a text, under the three grammars.
-    pub fn text(&mut self, text: &[u8], rooms: &mut Rooms) {
+    pub fn text(&mut self, text: &[u8], rooms: &mut Rooms) -> [Judged; 3] {
         let judged = GRAMMARS.map(|grammar| self.text_under(text, grammar, rooms));
         // The third demand: what a narrower grammar accepts, the wider one accepts with the same answers.
         if !judged[2].is_within(&judged[1]) || !judged[1].is_within(&judged[0]) {
-            fail(&format!(
-                "a wider grammar answers otherwise\ntext: \"{}\"",
-                text.escape_ascii()
-            ));
+            fail(&format!("a wider grammar answers otherwise\ntext: {}", shown(text)));
         }
+        judged
     }
 
     /// All calls on a text under one grammar, of any number.
     pub fn text_under(&mut self, text: &[u8], grammar: u32, rooms: &mut Rooms) -> Judged {
+        Judged {
+            message: self.message_under(text, grammar, rooms),
+            bundle: self.bundle_under(text, grammar, rooms),
+        }
+    }
+
+    /// The calls on a text as one message.
+    pub fn message_under(&mut self, text: &[u8], grammar: u32, rooms: &mut Rooms) -> Judgement<u8> {
         let message = self.paper.judge_read(text, grammar);
         let lent = rooms.of(&message, text.len() * 3 / 4);
         lent.iter().for_each(|&room| self.read(text, grammar, room, &message));
         self.label(text, grammar, &message);
         self.restore(text, grammar, &message);
+        message
+    }
+
+    /// The call on a text as a bundle.
+    pub fn bundle_under(&mut self, text: &[u8], grammar: u32, rooms: &mut Rooms) -> Judgement<u32> {
         let bundle = self.paper.judge_index(text, grammar);
         let lent = rooms.of(&bundle, 1 + text.len() / SHORTEST_MESSAGE * 5);
         lent.iter().for_each(|&room| self.index(text, grammar, room, &bundle));
-        Judged { message, bundle }
+        bundle
     }
 
     /// Writing what was read restores an accepted strict LF text whose data is within the limit.
@@ -192,7 +224,7 @@ impl Trial {
         &mut self,
         input: &Input,
         expected: &Answer<T>,
-        call: impl FnOnce(&mut [T], &mut Report) -> u32,
+        call: impl FnOnce(&mut [T], &mut Report) -> u32 + Send,
     ) {
         self.compare_as(input, expected.number, expected, call);
     }
@@ -203,17 +235,30 @@ impl Trial {
         input: &Input,
         counted: u32,
         expected: &Answer<T>,
-        call: impl FnOnce(&mut [T], &mut Report) -> u32,
+        call: impl FnOnce(&mut [T], &mut Report) -> u32 + Send,
     ) {
         self.cases += 1;
         let mut lent = Lent::new(expected.lent.len(), self.cases);
         let mut report = LentReport::new();
-        let returned = call(lent.part_mut(), report.part_mut());
+        let call = || call(lent.part_mut(), report.part_mut());
+        let returned = match self.stack {
+            None => call(),
+            Some(size) => on_stack_of(size, call),
+        };
         if let Some(difference) = difference(expected, returned, &report, &lent) {
             fail(&describe(input, expected.lent.len(), &difference));
         }
         self.tally.count(input.call, input.grammar, counted);
     }
+}
+
+/// What a function answers in a thread of its own, whose stack has this many bytes.
+fn on_stack_of<T: Send>(size: usize, function: impl FnOnce() -> T + Send) -> T {
+    thread::scope(|scope| {
+        let thread = thread::Builder::new().stack_size(size).spawn_scoped(scope, function);
+        thread.expect("a thread with a small stack").join()
+    })
+    .expect("a call that ends")
 }
 
 fn expected_report<T>(expected: &Answer<T>) -> Report {
@@ -257,15 +302,25 @@ fn difference<T: Cell>(expected: &Answer<T>, returned: u32, report: &LentReport,
 
 fn describe(input: &Input, room: usize, difference: &str) -> String {
     let name = if input.data.is_some() { "label" } else { "text" };
-    let text = format!("{name}: \"{}\"", input.text.escape_ascii());
+    let text = format!("{name}: {}", shown(input.text));
     let data = input
         .data
-        .map_or(String::new(), |data| format!("\ndata: \"{}\"", data.escape_ascii()));
+        .map_or(String::new(), |data| format!("\ndata: {}", shown(data)));
     let call = format!("{:?}", input.call).to_lowercase();
     format!(
         "{call} disagrees with the paper\n{text}{data}\ngrammar: {}\nroom: {room}\n{difference}",
         input.grammar
     )
+}
+
+/// An input, or the ends of a very long one.
+fn shown(bytes: &[u8]) -> String {
+    let quoted = |part: &[u8]| format!("\"{}\"", part.escape_ascii());
+    if bytes.len() <= SHOWN_WHOLE {
+        return quoted(bytes);
+    }
+    let (first, last) = (&bytes[..SHOWN_END], &bytes[bytes.len() - SHOWN_END..]);
+    format!("{} bytes, from {} to {}", bytes.len(), quoted(first), quoted(last))
 }
 
 /// Ends the run on the first disagreement.
