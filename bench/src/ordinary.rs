@@ -6,9 +6,9 @@
 use std::ops::Range;
 
 /// The strict grammar's limits.
-const TEXT_LIMIT: usize = 65_536;
+const TEXT_LIMIT: usize = 16_777_216;
 const LABEL_LIMIT: usize = 64;
-const DATA_LIMIT: usize = 32_768;
+const DATA_LIMIT: usize = 8_388_608;
 
 /// Characters of a full line, the bytes they stand for, and the line with its LF.
 const LINE: usize = 64;
@@ -362,6 +362,8 @@ fn put_last_line<'a>(out: &'a mut [u8], data: &[u8]) -> &'a mut [u8] {
 mod tests {
     use super::*;
     use crate::{library, texts};
+    use std::borrow::Cow;
+    use zullifern::{data_bound, table_bound};
 
     /// Bytes that matter somewhere in a text: marks, white, spare bits, cases, and what no text has.
     const DAMAGES: &[u8] = b"-=\r\n \tAah0+/~!_\0\x7F\x80\xFF";
@@ -372,26 +374,29 @@ mod tests {
     /// Both sides have to agree on a text, as a message and as a bundle. Answers whether it was read.
     fn agree(text: &[u8]) -> bool {
         agree_on_index(text);
-        let mut ours = vec![0; TEXT_LIMIT];
+        let mut ours = vec![0; data_bound(text.len())];
         let mut theirs = ours.clone();
         let message = read(text, &mut ours).ok();
-        let shown = String::from_utf8_lossy(text);
-        assert_eq!(message, library::read(text, &mut theirs), "{shown}");
+        assert_eq!(message, library::read(text, &mut theirs), "{}", shown(text));
         let Some(message) = message else {
             return false;
         };
-        assert_eq!(ours[..message.size], theirs[..message.size], "{shown}");
+        assert!(ours[..message.size] == theirs[..message.size], "{}", shown(text));
         true
     }
 
     fn agree_on_index(text: &[u8]) {
-        let mut ours = vec![0; texts::WHOLE_TABLE];
+        let mut ours = vec![0; table_bound(text.len())];
         let mut theirs = ours.clone();
         let size = index(text, &mut ours).ok();
-        let shown = String::from_utf8_lossy(text);
-        assert_eq!(size, library::index(text, &mut theirs), "{shown}");
+        assert_eq!(size, library::index(text, &mut theirs), "{}", shown(text));
         let size = size.unwrap_or(0);
-        assert_eq!(ours[..size], theirs[..size], "{shown}");
+        assert!(ours[..size] == theirs[..size], "{}", shown(text));
+    }
+
+    /// The start of a text, for a failure's message.
+    fn shown(text: &[u8]) -> Cow<'_, str> {
+        String::from_utf8_lossy(&text[..text.len().min(texts::SHORT_TEXT)])
     }
 
     fn agree_on_writing(label: &[u8], data: &[u8], room: usize) -> Option<Vec<u8>> {
@@ -422,12 +427,10 @@ mod tests {
 
     #[test]
     fn benchmark_texts() {
-        let bundle = texts::bundle();
+        let bundle = texts::bundle(texts::LONG_TEXT);
         assert!(!agree(&bundle));
-        assert_eq!(
-            index(&bundle, &mut vec![0; texts::WHOLE_TABLE]),
-            Ok(1 + BUNDLE_COUNT * ENTRY)
-        );
+        let size = 1 + BUNDLE_COUNT * ENTRY;
+        assert_eq!(index(&bundle, &mut vec![0; size]), Ok(size));
         for length in [texts::LONG_TEXT, texts::SHORT_TEXT] {
             let text = texts::one(length);
             assert!(text.len() <= length && agree(&text));
@@ -524,15 +527,21 @@ mod tests {
             assert_eq!(agree(&texts::message(&label, b"f")), length == LABEL_LIMIT);
             assert_eq!(agree_on_writing(&label, b"f", 256).is_some(), length == LABEL_LIMIT);
         }
+        let data = texts::data(DATA_LIMIT + 1);
         for length in [DATA_LIMIT, DATA_LIMIT + 1] {
-            let written = agree_on_writing(b"A", &texts::data(length), TEXT_LIMIT);
+            let written = agree_on_writing(b"A", &data[..length], written_size(1, length));
             assert_eq!(written.is_some(), length == DATA_LIMIT);
         }
     }
 
     #[test]
     fn longest_text() {
-        let mut text = texts::message(b"", &texts::data(48_372));
+        // Full lines come out at the limit under a label of this length. To make each of them would take seconds.
+        let (label, lines, times) = ([b'x'; 17], 530, 487);
+        let message = texts::message(&label, &texts::data(lines * LINE_DATA));
+        let (opening, rest) = message.split_at(BEGIN.len() + label.len() + HYPHENS.len() + 1);
+        let (body, closing) = rest.split_at(lines * LINE_WRITTEN);
+        let mut text = [opening, &body.repeat(times), closing].concat();
         assert!(text.len() == TEXT_LIMIT && agree(&text));
         // One byte more, and strict but for its length: the last line ends in CRLF.
         text.insert(TEXT_LIMIT - 1, CR);
