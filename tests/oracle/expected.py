@@ -10,9 +10,6 @@ from forms import GRAMMARS, checksum, numbers, samples, text_of
 # The numbers of a report that no call fills.
 RESERVED = (0, 0, 0)
 
-# What a text that was written is read back into.
-DATA_ROOM = 49152
-
 
 def made(n):
     """The first n triangular numbers, modulo 256."""
@@ -56,9 +53,10 @@ def print_written(name, label, data, room):
 
 
 def found(text, g):
-    """The label and the data that the read call finds."""
-    a = oracle.read(text, g, DATA_ROOM)
-    return text[a.label_at:a.label_at + a.label_len], result(a, DATA_ROOM)
+    """The label and the data that the read call finds, given room."""
+    room = len(text)
+    a = oracle.read(text, g, room)
+    return text[a.label_at:a.label_at + a.label_len], result(a, room)
 
 
 def write_sample(mode, name, room, head, data):
@@ -68,7 +66,7 @@ def write_sample(mode, name, room, head, data):
     if mode != "write":
         for g in GRAMMARS:
             assert not text or found(text, g) == (label, data)
-            print_read(name, text, g, DATA_ROOM)
+            print_read(name, text, g, room)
 
 
 def text_sample(mode, name, room, t):

@@ -8,17 +8,15 @@ use support::fields;
 use support::lent;
 use support::print;
 
-// What a text is read back into: no text that fits 65,536 bytes holds more, since four characters give three.
-const DATA_SIZE: usize = 49152;
-
-// The line of what is written; where it is to be read back, then those of what is read.
+// The line of what is written; where it is to be read back, then those of what is read, into as much room: a text is longer than
+// its data.
 fn write(name: &[u8], label: &[u8], data: &[u8], room: usize, back: bool) {
     let mut space = io::large_buffer();
     let out = bytes::first(&mut space, room);
     let answer = call::write(label, data, out);
     print::written(name, out, answer);
     if back {
-        message::each(name, bytes::part(out, 0, lent::filled(answer)), DATA_SIZE);
+        message::each(name, bytes::part(out, 0, lent::filled(answer)), room);
     }
 }
 
