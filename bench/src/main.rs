@@ -18,15 +18,22 @@ fn main() -> ExitCode {
     let words: Vec<String> = env::args().skip(1).collect();
     let words: Vec<&str> = words.iter().map(String::as_str).collect();
     match words[..] {
-        [] => timed::print_table(),
-        ["instructions"] => return instructions::print_table(),
-        [instructions::ONCE, side, call, length] if instructions::once(side, call, length).is_some() => (),
-        _ => {
-            eprintln!("usage: bench [instructions]");
-            return ExitCode::from(MISUSED);
+        [] => {
+            timed::print_table();
+            ExitCode::SUCCESS
         }
+        ["instructions"] => instructions::print_table(),
+        [instructions::ONCE, side, call, length] => match instructions::once(side, call, length) {
+            Some(()) => ExitCode::SUCCESS,
+            None => misused(),
+        },
+        _ => misused(),
     }
-    ExitCode::SUCCESS
+}
+
+fn misused() -> ExitCode {
+    eprintln!("usage: bench [instructions]");
+    ExitCode::from(MISUSED)
 }
 
 /// A number with a comma before each three digits.
