@@ -2,7 +2,7 @@
 use mathlib.Core.Path.{_≡_, refl, _∙_, ap}
 use mathlib.Core.Logic.{inl, inr}
 use mathlib.Core.List.{List, [], _∷_, _++_, map}
-use Prim.Native.Nat.{ℕ, _+_, _*_, _/_, _%_, _≤_, _<_}
+use Prim.Native.Nat.{ℕ, zero, suc, _+_, _*_, _/_, _%_, _≤_, _<_}
 use native.Mathlib.Omega.{arith}
 use lib.ListN.{length, getD, replicate, length-append, length-map, length-replicate}
 use Rattle.base64.specs.Lists.{All}
@@ -68,6 +68,19 @@ pub bytes-number : (a b c d : ℕ) → Sextet b → Sextet c
     → (byte1 a b * 256 + byte2 b c) * 256 + byte3 c d ≡ ((a * 64 + b) * 64 + c) * 64 + d
 bytes-number a b c d hb hc = omega arith
 
+-- The four values of three bytes from that number.
+pub number-value1 : (x y z n : ℕ) → Octet x → Octet y → Octet z → n ≡ x * 65536 + y * 256 + z → n / 262144 % 64 ≡ value1 x
+number-value1 x y z n hx hy hz e = omega arith
+
+pub number-value2 : (x y z n : ℕ) → Octet y → Octet z → n ≡ x * 65536 + y * 256 + z → n / 4096 % 64 ≡ value2 x y
+number-value2 x y z n hy hz e = omega arith
+
+pub number-value3 : (x y z n : ℕ) → Octet z → n ≡ x * 65536 + y * 256 + z → n / 64 % 64 ≡ value3 y z
+number-value3 x y z n hz e = omega arith
+
+pub number-value4 : (x y z n : ℕ) → n ≡ x * 65536 + y * 256 + z → n % 64 ≡ value4 z
+number-value4 x y z n e = omega arith
+
 -- ---- decoding inverts encoding
 
 byte1-back : (x y : ℕ) → Octet y → byte1 (value1 x) (value2 x y) ≡ x
@@ -130,6 +143,20 @@ encode-decode cs p h f s =
     let back = values-bytes (valuesOf cs) p (all-map valueOf AlphabetChar Sextet (λ c k. k) cs h) (rw length-map f) s in
     let chars : charsOf (decode cs) ≡ cs = ap (map charOf) (back .0) ∙ map-undone valueOf charOf AlphabetChar char-value cs h in
     λ i. chars i ++ replicate (back .1 i) pad
+
+-- ---- whole groups in front
+
+pub decode-append : (k : ℕ) (a b : List ℕ) → length a ≡ 4 * k → decode (a ++ b) ≡ decode a ++ decode b
+decode-append zero [] b e = refl
+decode-append zero (w ∷ a) b e = absurd (omega arith)
+decode-append (suc k) [] b e = absurd (omega arith)
+decode-append (suc k) (w ∷ []) b e = absurd (omega arith)
+decode-append (suc k) (w ∷ x ∷ []) b e = absurd (omega arith)
+decode-append (suc k) (w ∷ x ∷ y ∷ []) b e = absurd (omega arith)
+decode-append (suc k) (w ∷ x ∷ y ∷ z ∷ a) b e =
+    ap
+    (λ (l : List ℕ). byte1 (valueOf w) (valueOf x) ∷ byte2 (valueOf x) (valueOf y) ∷ byte3 (valueOf y) (valueOf z) ∷ l)
+    (decode-append k a b (omega arith))
 
 -- ---- lengths
 

@@ -9,6 +9,11 @@ ghost use Rattle.base64.specs.Groups.{toBytes, toValues, spareBits, enco
 // The pad behind a short group.
 pub const PAD: u8 = b'=';
 
+// The characters of a group, and the bytes that they stand for.
+pub const GROUP_CHARS: usize = 4;
+
+pub const GROUP_BYTES: usize = 3;
+
 // The characters for values 0 to 63.
 const ALPHABET: [u8; 64] = *b"ABCDEFGHIJKLMNOPQRSTUVWXYZabcdefghijklmnopqrstuvwxyz0123456789+/";
 
@@ -131,11 +136,24 @@ pub fn bytes_of_two(a: u8, b: u8) -> OneByte
     }
 }
 
-// Three bytes: four values.
+// The same number in more bits.
+fn wide(x: u8) -> u64
+    ensures { λ r. ⌜ r ≡ x ⌝ }
+{
+    x as u64
+}
+
+// Three bytes: four values. They are one number of 24 bits.
 pub fn values_of_three(x: u8, y: u8, z: u8) -> [u8; 4]
     ensures { λ r. ⌜ r ≡ toValues (x ∷ y ∷ z ∷ []) ⌝ }
 {
-    [x / 4, x % 4 * 16 + y / 16, y % 16 * 4 + z / 64, z % 64]
+    let n = wide(x) * 65536 + wide(y) * 256 + wide(z);
+    [
+        (n / 262144 % 64) as u8,
+        (n / 4096 % 64) as u8,
+        (n / 64 % 64) as u8,
+        (n % 64) as u8,
+    ]
 }
 
 // Two bytes: three values.

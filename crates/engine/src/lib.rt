@@ -6,7 +6,18 @@ ghost use Rattle.machine.proofs.Machine.{wordOf, wordStep, labelRow, labelTarge
 use base64::PAD;
 use base64::Value;
 use base64::value_of;
+use grammar::BEGIN;
+use grammar::CR;
+use grammar::END;
+use grammar::FF;
+use grammar::FIRST_MARK;
 use grammar::Grammar;
+use grammar::HT;
+use grammar::HYPHEN;
+use grammar::LAST_MARK;
+use grammar::LF;
+use grammar::SP;
+use grammar::VT;
 use machine::Boundary;
 use machine::Kind;
 use machine::LabelPhase;
@@ -19,30 +30,6 @@ use machine::Row;
 use machine::StandardPhase;
 use machine::State;
 use machine::StrictPhase;
-
-// The marks.
-const HT: u8 = b'\t';
-
-pub const LF: u8 = b'\n';
-
-const VT: u8 = 11;
-
-const FF: u8 = 12;
-
-const CR: u8 = b'\r';
-
-const SP: u8 = b' ';
-
-const HYPHEN: u8 = b'-';
-
-// The first and the last character of labels, the hyphen between them aside.
-const FIRST_MARK: u8 = b'!';
-
-const LAST_MARK: u8 = b'~';
-
-pub const BEGIN: [u8; 11] = *b"-----BEGIN ";
-
-pub const END: [u8; 9] = *b"-----END ";
 
 // How many characters a strict line has room for behind its first.
 const LINE_ROOM: u8 = 63;
@@ -207,7 +194,7 @@ pub fn label_step(phase: LabelPhase, b: u8) -> LabelTarget
 }
 
 // The phase right behind a boundary.
-fn behind_boundary(grammar: Grammar, boundary: Boundary) -> Phase
+pub fn behind_boundary(grammar: Grammar, boundary: Boundary) -> Phase
     ensures { λ r. ⌜ r ≡ behind grammar boundary ⌝ }
 {
     match boundary {

@@ -6,6 +6,40 @@ ghost use lib.ListN.{length};
 ghost use Rattle.grammar.specs.Marks.{begin, end};
 ghost use Rattle.grammar.specs.Grammars.{grammarOf};
 
+// The marks, by their bytes; the alphabet and the pad are those of base 64.
+pub const HT: u8 = b'\t';
+
+pub const LF: u8 = b'\n';
+
+pub const VT: u8 = 11;
+
+pub const FF: u8 = 12;
+
+pub const CR: u8 = b'\r';
+
+pub const SP: u8 = b' ';
+
+pub const HYPHEN: u8 = b'-';
+
+// The first and the last character of labels, the hyphen between them aside.
+pub const FIRST_MARK: u8 = b'!';
+
+pub const LAST_MARK: u8 = b'~';
+
+// What stands around the labels of the boundaries.
+pub const BEGIN: [u8; 11] = *b"-----BEGIN ";
+
+pub const END: [u8; 9] = *b"-----END ";
+
+pub const HYPHENS: [u8; 5] = *b"-----";
+
+// The characters of a full line, its groups of four, and the bytes that they stand for.
+pub const LINE_CHARS: usize = 64;
+
+pub const LINE_GROUPS: usize = LINE_CHARS / base64::GROUP_CHARS;
+
+pub const LINE_BYTES: usize = LINE_GROUPS * base64::GROUP_BYTES;
+
 // A grammar.
 pub enum Grammar {
     Lax,
@@ -43,7 +77,7 @@ impl Grammar {
 // An offset in a text: the number of bytes before it. It is no count of decoded bytes (`base64::ByteCount`).
 pub struct TextOffset(pub usize);
 
-// How many bytes of a boundary stand before its label, "-----BEGIN " and "-----END ".
+// How many bytes BEGIN and END have.
 const BEGIN_LENGTH: usize = 11;
 
 const END_LENGTH: usize = 9;
