@@ -1,5 +1,4 @@
 -- Facts about the files of specs/, under the same names. Assumes nothing.
-pub mod Zeros
 pub mod Data
 pub mod Tallies
 pub mod Places

@@ -16,6 +16,7 @@ use Rattle.grammar.specs.Grammars.{grammarOf}
 use Rattle.grammar.specs.Message.{Reading, textOf, characters, dataOf}
 use Rattle.grammar.specs.Starts.{LongestStart}
 use Rattle.grammar.specs.declared.Grammar.{Grammar}
+use Rattle.grammar.specs.declared.Grammar.the-variants as grammar
 use Rattle.grammar.specs.declared.Numbered.{Numbered}
 use Rattle.grammar.specs.declared.Numbered.the-variants.{Known, Unknown}
 use Rattle.grammar.proofs.Message.{reading-unique}
@@ -234,6 +235,13 @@ sound-fits text number l size e = go l size (subst (Judged text number) e (judge
         let o = opening-length (r .openingLabel) in
         let c = closing-length (r .closingLabel) in
         (omega arith, omega arith, ap length (sym (data-in text r (p .parsed .joined))))
+
+-- The same by the grammar, whichever number it has.
+pub known-fits : (g : Grammar) (text : List ℕ) (l : Layout) (size : ByteCount) → judgedBy (Known g) text ≡ judgement.Sound l size
+    → Lies (length text) l × (l .body .at .0 + l .body .length ≤ length text) × (size .0 ≡ length (decode (characters (spanned text (l .body)))))
+known-fits grammar.Lax text l size e = sound-fits text 1 l size e
+known-fits grammar.Standard text l size e = sound-fits text 2 l size e
+known-fits grammar.Strict text l size e = sound-fits text 3 l size e
 
 -- What the code has to know of a scan that has read a whole text of the grammar.
 pub whole-fits : (g : Grammar) (text : List ℕ) → isWhole (scanned g text) (length text) ≡ true → TallyFits (length text) ((scanned g text) .tally)

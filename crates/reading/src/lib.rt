@@ -5,6 +5,11 @@ use base64::ByteCount;
 use grammar::TextOffset;
 use machine::Phase;
 
+// The longest text and the longest label that are read, in bytes.
+pub const TEXT_LIMIT: usize = 16777216;
+
+pub const LABEL_LIMIT: usize = 64;
+
 // How many bytes of a message each part has, and of its body how many alphabet characters, how many pads, and how many bytes
 // before its last alphabet character.
 pub struct Tally {
@@ -72,18 +77,4 @@ pub enum ReadAnswer {
     Refused(Refusal),
     // 10: the output is zeros; the size is what the data needs.
     OutputTooSmall(Found),
-}
-
-// A group of which so many characters were read, with the value of the last one: its low bits start the next byte.
-pub enum Open {
-    Start,
-    One(u8),
-    Two(u8),
-    Three(u8),
-}
-
-// What the next byte of a body does: it leaves an open group, or completes a byte of the data too.
-pub enum Fed {
-    Held(Open),
-    Byte(u8, Open),
 }

@@ -1,0 +1,4 @@
+-- Facts about the files of specs/, under the same names, and the functions meet their contracts. Assumes nothing.
+pub mod Tables
+pub mod Feeding
+pub mod Decoding
