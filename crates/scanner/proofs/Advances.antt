@@ -1,0 +1,308 @@
+-- Leaps put together from steps, and a run of alphabet characters in each of the three grammars. Assumes nothing.
+use mathlib.Core.Path.{_≡_, refl, sym, ap, _∙_}
+use mathlib.Core.Bool.{Bool, true, false, cond}
+use mathlib.Core.Logic.{inl, inr}
+use mathlib.Core.List.{List}
+use Prim.Native.Nat.{ℕ, zero, suc, _+_, _-_, _≤_, _<_, _^_}
+use native.Mathlib.Omega.{arith}
+use native.Mathlib.Numerals.{add-one}
+use lib.Dec.{eqb, ltb}
+use lib.ListN.{length, drop, getD, drop-of-length-le}
+use lib.Seq.{drop-cons}
+use borrow.Author.Tests.{ne-eqb, ltb-true, ltb-false}
+use Rattle.base64.specs.Alphabet.{AlphabetChar}
+use Rattle.grammar.specs.Marks.{CR, LF, Blank}
+use Rattle.grammar.specs.declared.Grammar.{Grammar}
+use Rattle.machine.proofs.ByteKinds.{kindOf}
+use Rattle.machine.proofs.Machine.{state, next, step, partOf, bytePart, dead, laxRow, standardRow, strictRow}
+use Rattle.machine.proofs.Bytes.{alphabet-seen}
+use Rattle.machine.proofs.Runs.{Takes, row-takes}
+use Rattle.machine.specs.declared.Kind.the-variants as kind
+use Rattle.machine.specs.declared.LaxPhase.the-variants as lax
+use Rattle.machine.specs.declared.StandardPhase.the-variants as standard
+use Rattle.machine.specs.declared.StrictPhase.the-variants as strict
+use Rattle.machine.specs.declared.Part.the-variants as part
+use Rattle.machine.specs.declared.Phase.{Phase}
+use Rattle.machine.specs.declared.Phase.the-variants.{Lax, Standard, Strict}
+use Rattle.machine.specs.declared.State.{State}
+use Rattle.reading.specs.declared.Tally.{Tally}
+use Rattle.reading.specs.Scan.{characterTallied, tallied, stopped, scanOf}
+use Rattle.reading.proofs.Scans.{Within, within-next}
+use Rattle.runs.specs.Runs.{Characters, Blanks, LineEndAt, none, lf, crlf}
+use Rattle.scanner.specs.Advances.{Advanced, Stopped, Countable, OnCharacter, OnLineEnd, OnBlank, LinePhases, FullLine, FullLines, runTallied, othersTallied}
+
+module _ {g : Grammar} {text : List ℕ} where
+  pub advanced-none : (s : State) (t : Tally) (i : ℕ) → i ≤ length text → Advanced g text s t i s t i
+  advanced-none s t i h =
+      let none : (n : ℕ) → n + (i - i) ≡ n = λ n. omega arith in
+      record { forward = omega arith; inside = h; within = λ n w. rw (none n) w; ahead = λ n. rw (none n) }
+
+  pub advanced-then : {s : State} {t : Tally} {i : ℕ} {s' : State} {t' : Tally} {j : ℕ} {u : State} {v : Tally} {k : ℕ}
+      → Advanced g text s t i s' t' j → Advanced g text s' t' j u v k → Advanced g text s t i u v k
+  advanced-then {i = i} {j = j} {k = k} a b =
+      let sum : (n : ℕ) → n + (j - i) + (k - j) ≡ n + (k - i) = λ n. omega (arith, a .forward, b .forward) in
+      record {
+        forward = omega (arith, a .forward, b .forward);
+        inside = b .inside;
+        within = λ n w. rw (sum n) at (b .within (n + (j - i)) (a .within n w));
+        ahead = λ n. a .ahead n ∙ (rw (sum n) at (b .ahead (n + (j - i))));
+      }
+
+  -- One byte that the machine lives through.
+  pub advanced-byte : (s : State) (t : Tally) (i : ℕ) (s' : State) (t' : Tally) → i < length text → step g s (getD text i 0) ≡ s' → dead (s' .phase) ≡ false
+      → t' ≡ tallied (bytePart (partOf (s .phase)) (partOf (s' .phase))) (kindOf (getD text i 0)) t → Advanced g text s t i s' t' (i + 1)
+  advanced-byte s t i s' t' h e alive counted =
+      let one : (n : ℕ) → n + (i + 1 - i) ≡ suc n = λ n. omega arith in
+      record {
+        forward = omega arith;
+        inside = omega arith;
+        within = λ n w. rw (one n, counted) (within-next (bytePart (partOf (s .phase)) (partOf (s' .phase))) (kindOf (getD text i 0)) w);
+        ahead = λ n. rw (one n, add-one, counted, drop-cons text i 0 h, e, alive);
+      }
+
+-- A scan that goes no further.
+pub stopped-end : (g : Grammar) (text : List ℕ) (s : State) (t : Tally) (i : ℕ) → length text ≤ i → Stopped g text s t i
+stopped-end g text s t i h = record { ends = λ n. rw (drop-of-length-le text h) }
+
+pub stopped-dead : (g : Grammar) (text : List ℕ) (s : State) (t : Tally) (i : ℕ) → i < length text → (s' : State) → s' ≡ step g s (getD text i 0) → dead (s' .phase) ≡ true
+    → Stopped g text s t i
+stopped-dead g text s t i h s' e gone = record { ends = λ n. rw (drop-cons text i 0 h, ← e, gone) }
+
+-- What a position tells where the scan goes no further.
+pub scanned : {g : Grammar} {text : List ℕ} {s : State} {t : Tally} {i : ℕ} {s' : State} {t' : Tally} {j : ℕ} → Advanced g text s t i s' t' j → Stopped g text s' t' j
+    → stopped s' (j - i) t' ≡ scanOf g s 0 t (drop i text)
+scanned {i = i} {t' = t'} {j = j} a z =
+    let count : 0 + (j - i) ≡ j - i = omega arith in
+    sym (rw count at (a .ahead 0 ∙ z .ends (0 + (j - i))))
+
+-- The tally at a place that was come to from another.
+pub within-there : {g : Grammar} {text : List ℕ} {s : State} {t : Tally} {i : ℕ} {s' : State} {t' : Tally} {j : ℕ} → Advanced g text s t i s' t' j → Within t i → Within t' j
+within-there {i = i} {j = j} a w = let place : i + (j - i) ≡ j = omega (arith, a .forward) in rw place at (a .within i w)
+
+-- A tally of no more bytes than stand before the place can be added to.
+pub countable : (text : List ℕ) {t : Tally} {i : ℕ} → i ≤ length text → length text < 2 ^ 64 → Within t i → Countable text t i
+countable text h fits w = omega (arith, w)
+
+-- A byte that is no LF moves the machine, whether CR was read before it or not.
+pub step-moves : (g : Grammar) (p : Phase) (cr : Bool) (c : ℕ) → eqb c LF ≡ false → step g (state p cr) c ≡ state (next g p c) (eqb c CR)
+step-moves g p true c e = rw e
+step-moves g p false c e = refl
+
+run-one : (t : Tally) → runTallied 1 t ≡ characterTallied t
+run-one t = let e : t .body + 1 - 1 ≡ t .body = omega arith in rw e
+
+run-more : (n : ℕ) (t : Tally) → runTallied n (characterTallied t) ≡ runTallied (suc n) t
+run-more n t =
+    let e : t .body + 1 + n ≡ t .body + suc n = omega arith in
+    let f : t .characters + 1 + n ≡ t .characters + suc n = omega arith in
+    rw (e, f)
+
+module _ {g : Grammar} {text : List ℕ} where
+  advanced-char : {p q : Phase} → OnCharacter g p q → (cr : Bool) (t : Tally) (i : ℕ) → i < length text → AlphabetChar (getD text i 0)
+      → Advanced g text (state p cr) t i (state q false) (characterTallied t) (i + 1)
+  advanced-char {p} {q} w cr t i h a =
+      let seen = alphabet-seen (getD text i 0) a in
+      advanced-byte (state p cr) t i (state q false) (characterTallied t) h
+      (step-moves g p cr (getD text i 0) (seen .no-lf) ∙ rw (w .takes (getD text i 0) a, seen .no-cr))
+      (w .alive)
+      (rw (w .from, w .to, seen .kind))
+
+  -- A run: behind its first character the machine counts down.
+  pub advanced-run : (f : ℕ → Phase) → ((m : ℕ) → OnCharacter g (f (suc m)) (f m)) → (n more : ℕ) {p : Phase} → OnCharacter g p (f (n + more)) → (cr : Bool) (t : Tally) (i : ℕ)
+      → i + suc n ≤ length text → Characters text i (i + suc n) → Advanced g text (state p cr) t i (state (f more) false) (runTallied (suc n) t) (i + suc n)
+  advanced-run f on zero more {p} w cr t i h a =
+      let here : 0 + more ≡ more = omega arith in
+      let w' : OnCharacter g p (f more) = rw here at w in
+      rw (run-one t) (advanced-char w' cr t i (omega arith) (a .all i (omega arith) (omega arith)))
+  advanced-run f on (suc n) more {p} w cr t i h a =
+      let same : suc n + more ≡ suc (n + more) = omega arith in
+      let w' : OnCharacter g p (f (suc (n + more))) = rw same at w in
+      let next : i + 1 + suc n ≡ i + suc (suc n) = omega arith in
+      advanced-then
+      (advanced-char w' cr t i (omega arith) (a .all i (omega arith) (omega arith)))
+      (rw (← run-more (suc n) t, ← next) (advanced-run f on n more (on (n + more)) false (characterTallied t) (i + 1) (omega arith) (record { all = λ k low high. a .all k (omega arith) (omega arith) })))
+
+-- ---- Line ends
+
+module _ {g : Grammar} {text : List ℕ} {p q : Phase} (w : OnLineEnd g p q) (t : Tally) (i : ℕ) where
+  advanced-lf : i < length text → getD text i 0 ≡ LF → Advanced g text (state p false) t i (state q false) (othersTallied 1 t) (i + 1)
+  advanced-lf h e = advanced-byte (state p false) t i (state q false) (othersTallied 1 t) h (rw (e, w .lf)) (w .alive) (rw (w .from, w .to, e))
+
+  advanced-cr : i < length text → getD text i 0 ≡ CR → Advanced g text (state p false) t i (state q true) (othersTallied 1 t) (i + 1)
+  advanced-cr h e = advanced-byte (state p false) t i (state q true) (othersTallied 1 t) h (rw (e, w .cr)) (w .alive) (rw (w .from, w .to, e))
+
+  -- LF behind CR moves nothing.
+  advanced-second : (u : Tally) (j : ℕ) → j < length text → getD text j 0 ≡ LF → Advanced g text (state q true) u j (state q false) (othersTallied 1 u) (j + 1)
+  advanced-second u j h e = advanced-byte (state q true) u j (state q false) (othersTallied 1 u) h (rw e) (w .alive) (rw (w .to, e))
+
+  advanced-crlf : i + 1 < length text → getD text i 0 ≡ CR → getD text (i + 1) 0 ≡ LF → Advanced g text (state p false) t i (state q false) (othersTallied 2 t) (i + 2)
+  advanced-crlf h e f =
+      let two : i + 1 + 1 ≡ i + 2 = omega arith in
+      let both : t .body + 1 + 1 ≡ t .body + 2 = omega arith in
+      rw (← two, ← both) (advanced-then (advanced-cr (omega arith) e) (advanced-second (othersTallied 1 t) (i + 1) h f))
+
+  pub advanced-line-end : {n : ℕ} → LineEndAt text i n → 0 < n → Advanced g text (state p false) t i (state q false) (othersTallied n t) (i + n)
+  advanced-line-end none some = absurd (omega arith)
+  advanced-line-end (lf h e) some = advanced-lf h e
+  advanced-line-end (crlf h e f) some = advanced-crlf h e f
+
+-- ---- Blanks
+
+pub others-none : (t : Tally) → othersTallied 0 t ≡ t
+others-none t = let e : t .body + 0 ≡ t .body = omega arith in rw e
+
+others-more : (m n : ℕ) (t : Tally) → othersTallied n (othersTallied m t) ≡ othersTallied (m + n) t
+others-more m n t = let e : t .body + m + n ≡ t .body + (m + n) = omega arith in rw e
+
+module _ {g : Grammar} {text : List ℕ} where
+  advanced-blank : {p q : Phase} → OnBlank g p q → (t : Tally) (i : ℕ) → i < length text → Blank (getD text i 0)
+      → Advanced g text (state p false) t i (state q false) (othersTallied 1 t) (i + 1)
+  advanced-blank {p} {q} w t i h (inl e) = advanced-byte (state p false) t i (state q false) (othersTallied 1 t) h (rw (e, w .ht)) (w .alive) (rw (w .from, w .to, e))
+  advanced-blank {p} {q} w t i h (inr e) = advanced-byte (state p false) t i (state q false) (othersTallied 1 t) h (rw (e, w .sp)) (w .alive) (rw (w .from, w .to, e))
+
+  advanced-blanks : (n : ℕ) {p q : Phase} → OnBlank g p q → OnBlank g q q → (t : Tally) (i : ℕ) → i + suc n ≤ length text → Blanks text i (i + suc n)
+      → Advanced g text (state p false) t i (state q false) (othersTallied (suc n) t) (i + suc n)
+  advanced-blanks zero w on t i h a = advanced-blank w t i (omega arith) (a .all i (omega arith) (omega arith))
+  advanced-blanks (suc n) w on t i h a =
+      let next : i + 1 + suc n ≡ i + suc (suc n) = omega arith in
+      let count : 1 + suc n ≡ suc (suc n) = omega arith in
+      let rest = advanced-blanks n on on (othersTallied 1 t) (i + 1) (omega arith) (record { all = λ k low high. a .all k (omega arith) (omega arith) }) in
+      advanced-then (advanced-blank w t i (omega arith) (a .all i (omega arith) (omega arith))) (rw (next, others-more 1 (suc n) t, count) at rest)
+
+  -- From a place to a later one.
+  pub blanks-to : {p q : Phase} → OnBlank g p q → OnBlank g q q → (t : Tally) (i j : ℕ) → i < j → j ≤ length text → Blanks text i j
+      → Advanced g text (state p false) t i (state q false) (othersTallied (j - i) t) j
+  blanks-to w on t i j h inside a =
+      let count : suc (j - i - 1) ≡ j - i = omega arith in
+      let end : i + (j - i) ≡ j = omega arith in
+      let a' : Blanks text i (i + suc (j - i - 1)) = rw (count, end) a in
+      rw end at (rw count at (advanced-blanks (j - i - 1) w on t i (omega arith) a'))
+
+  -- Blanks, if any, and a line end.
+  pub blanks-line-end : {within behind trailing : Phase} → OnBlank g within trailing → OnBlank g trailing trailing → OnLineEnd g within behind → OnLineEnd g trailing behind
+      → (t : Tally) (j k n : ℕ) → j ≤ k → k ≤ length text → Blanks text j k → LineEndAt text k n → 0 < n
+      → Advanced g text (state within false) t j (state behind false) (othersTallied (k - j + n) t) (k + n)
+  blanks-line-end {within} {behind} w on ends closes t j k n low inside a e some = go (ltb j k) refl
+    where
+      go : (b : Bool) → ltb j k ≡ b → Advanced g text (state within false) t j (state behind false) (othersTallied (k - j + n) t) (k + n)
+      go true q = rw (others-more (k - j) n t) at (advanced-then (blanks-to w on t j k (ltb-true j k q) inside a) (advanced-line-end closes (othersTallied (k - j) t) k e some))
+      go false q =
+          let same : j ≡ k = omega (arith, ltb-false j k q) in
+          let here : k - j + n ≡ n = omega arith in
+          rw (here, same) (advanced-line-end ends t k e some)
+
+-- ---- The three grammars: the phases in which a character stays in phases of one kind
+
+lax-way : (g : Grammar) → OnCharacter g (Lax lax.Data) (Lax lax.Data)
+lax-way g = record { from = refl; to = refl; alive = refl; takes = row-takes (laxRow lax.Data) refl }
+
+standard-way : (g : Grammar) → OnCharacter g (Standard standard.Data) (Standard standard.Data)
+standard-way g = record { from = refl; to = refl; alive = refl; takes = row-takes (standardRow standard.Data) refl }
+
+strict-way : (g : Grammar) (m : ℕ) → OnCharacter g (Strict (strict.Data (suc m))) (Strict (strict.Data m))
+strict-way g m =
+    let some : eqb (suc m) 0 ≡ false = ne-eqb (suc m) 0 (λ (e : suc m ≡ 0). omega arith) in
+    let less : suc m - 1 ≡ m = omega arith in
+    record { from = refl; to = refl; alive = refl; takes = row-takes (strictRow (strict.Data (suc m))) (rw (some, less)) }
+
+-- From a place to a later one.
+module _ {g : Grammar} {text : List ℕ} (cr : Bool) (t : Tally) (i j : ℕ) (h : i < j) (inside : j ≤ length text) (a : Characters text i j) where
+  run-to : (f : ℕ → Phase) → ((m : ℕ) → OnCharacter g (f (suc m)) (f m)) → (more : ℕ) {p : Phase} → OnCharacter g p (f (j - i - 1 + more))
+      → Advanced g text (state p cr) t i (state (f more) false) (runTallied (j - i) t) j
+  run-to f on more w =
+      let count : suc (j - i - 1) ≡ j - i = omega arith in
+      let end : i + (j - i) ≡ j = omega arith in
+      let a' : Characters text i (i + suc (j - i - 1)) = rw (count, end) a in
+      rw end at (rw count at (advanced-run f on (j - i - 1) more w cr t i (omega arith) a'))
+
+  -- Phases that stay as they are: lax and standard.
+  pub staying-run : {p q : Phase} → OnCharacter g p q → OnCharacter g q q → Advanced g text (state p cr) t i (state q false) (runTallied (j - i) t) j
+  staying-run {q = q} w on = run-to (λ m. q) (λ m. on) 0 w
+
+  -- A strict line, from its start: as much room is left as the line lacks.
+  pub strict-run : {p : Phase} → OnCharacter g p (Strict (strict.Data 63)) → j - i ≤ 64
+      → Advanced g text (state p cr) t i (state (Strict (strict.Data (64 - (j - i)))) false) (runTallied (j - i) t) j
+  strict-run {p} w few =
+      let room : 63 ≡ j - i - 1 + (64 - (j - i)) = omega arith in
+      let w' : OnCharacter g p (Strict (strict.Data (j - i - 1 + (64 - (j - i))))) = rw room at w in
+      run-to (λ m. Strict (strict.Data m)) (strict-way g) (64 - (j - i)) w'
+
+-- ---- The phases of lines
+
+pub lax-lined : (g : Grammar) → LinePhases g (Lax lax.Data) (Lax lax.Data) (Lax lax.Data) (Lax lax.Data) true
+lax-lined g = record {
+  begins = lax-way g;
+  goes-on = lax-way g;
+  ends = record { from = refl; to = refl; alive = refl; lf = refl; cr = refl };
+  again = lax-way g;
+  pauses = record { from = refl; to = refl; alive = refl; ht = refl; sp = refl };
+  stays = record { from = refl; to = refl; alive = refl; ht = refl; sp = refl };
+  closes = record { from = refl; to = refl; alive = refl; lf = refl; cr = refl };
+  resumed = λ e. lax-way g;
+}
+
+no-way : {g : Grammar} {p q : Phase} → false ≡ true → OnCharacter g p q
+no-way e =
+    let z : _≡_ {A = ℕ} 0 1 = ap (λ (b : Bool). cond b 1 0) e in
+    absurd (omega arith)
+
+standard-begins : (g : Grammar) {p : Phase} → partOf p ≡ part.Body → Takes g p (Standard standard.Data) → OnCharacter g p (Standard standard.Data)
+standard-begins g e f = record { from = e; to = refl; alive = refl; takes = f }
+
+pub standard-lined : (g : Grammar) {p : Phase} → OnCharacter g p (Standard standard.Data) → LinePhases g p (Standard standard.Data) (Standard standard.Line) (Standard standard.Trailing) false
+standard-lined g w = record {
+  begins = w;
+  goes-on = standard-way g;
+  ends = record { from = refl; to = refl; alive = refl; lf = refl; cr = refl };
+  again = standard-begins g refl (row-takes (standardRow standard.Line) refl);
+  pauses = record { from = refl; to = refl; alive = refl; ht = refl; sp = refl };
+  stays = record { from = refl; to = refl; alive = refl; ht = refl; sp = refl };
+  closes = record { from = refl; to = refl; alive = refl; lf = refl; cr = refl };
+  resumed = λ e. no-way e;
+}
+
+pub standard-leading : (g : Grammar) → OnCharacter g (Standard standard.Leading) (Standard standard.Data)
+standard-leading g = standard-begins g refl (row-takes (standardRow standard.Leading) refl)
+
+pub standard-blank : (g : Grammar) → OnCharacter g (Standard standard.BlankLine) (Standard standard.Data)
+standard-blank g = standard-begins g refl (row-takes (standardRow standard.BlankLine) refl)
+
+pub standard-line : (g : Grammar) → OnCharacter g (Standard standard.Line) (Standard standard.Data)
+standard-line g = standard-begins g refl (row-takes (standardRow standard.Line) refl)
+
+pub strict-first : (g : Grammar) → OnCharacter g (Strict strict.First) (Strict (strict.Data 63))
+strict-first g = record { from = refl; to = refl; alive = refl; takes = row-takes (strictRow strict.First) refl }
+
+pub strict-line : (g : Grammar) → OnCharacter g (Strict strict.Line) (Strict (strict.Data 63))
+strict-line g = record { from = refl; to = refl; alive = refl; takes = row-takes (strictRow strict.Line) refl }
+
+-- A full line may end.
+strict-ends : (g : Grammar) → OnLineEnd g (Strict (strict.Data 0)) (Strict strict.Line)
+strict-ends g = record { from = refl; to = refl; alive = refl; lf = refl; cr = refl }
+
+-- ---- Full lines
+
+staying-line : {g : Grammar} {p q r : Phase} → OnCharacter g p q → OnCharacter g q q → OnLineEnd g q r → FullLine g p r
+staying-line {q = q} w on ends = record {
+  full = q;
+  run = λ text cr t i h a. let all : i + 64 - i ≡ 64 = omega arith in rw all at (staying-run cr t i (i + 64) (omega arith) h a w on);
+  ends = ends;
+}
+
+strict-full : {g : Grammar} {p : Phase} → OnCharacter g p (Strict (strict.Data 63)) → FullLine g p (Strict strict.Line)
+strict-full {g} w = record {
+  full = Strict (strict.Data 0);
+  run = λ text cr t i h a. let all : i + 64 - i ≡ 64 = omega arith in rw all at (strict-run cr t i (i + 64) (omega arith) h a w (omega arith));
+  ends = strict-ends g;
+}
+
+pub strict-lines : {g : Grammar} {p : Phase} → OnCharacter g p (Strict (strict.Data 63)) → FullLines g p (Strict strict.Line)
+strict-lines {g} w = record { first = strict-full w; again = strict-full (strict-line g) }
+
+pub line-phases-full : {g : Grammar} {p within behind trailing : Phase} {resumes : Bool} → LinePhases g p within behind trailing resumes → FullLines g p behind
+line-phases-full l = record { first = staying-line (l .begins) (l .goes-on) (l .ends); again = staying-line (l .again) (l .goes-on) (l .ends) }
+
+-- One full line of those that may stand here.
+pub full-line : {g : Grammar} {text : List ℕ} {p q : Phase} → FullLine g p q → (cr : Bool) (t : Tally) (i n : ℕ) → i + 64 ≤ length text → Characters text i (i + 64) → LineEndAt text (i + 64) n → 0 < n
+    → Advanced g text (state p cr) t i (state q false) (othersTallied n (runTallied 64 t)) (i + 64 + n)
+full-line {text = text} l cr t i n h a e some = advanced-then (l .run text cr t i h a) (advanced-line-end (l .ends) (runTallied 64 t) (i + 64) e some)

@@ -1,0 +1,82 @@
+-- `scanner::advance_run` meets its contract. Assumes nothing.
+use Prim.Native.Nat.{ℕ, _+_, _-_, _≤_, _<_}
+use native.Mathlib.Omega.{arith}
+use lib.ListN.{length}
+use Rattle.machine.specs.declared.LabelPhase.the-variants.{Start, Char}
+use Rattle.scanner.proofs.Boundaries.{continues-start, continues-char}
+use borrow.Author.Needs.{needs}
+use Rattle.scanner.proofs.advance_run.Statement.{statement}
+use Rattle.scanner.proofs.advance_run.Tie as tie
+
+shared-slice-read-if1 : tie.Need-shared-slice-read-if1
+shared-slice-read-if1 c = search needs
+
+stay-requires : tie.Need-stay-requires
+stay-requires c κs = search needs
+
+returns : tie.Need-returns
+returns c = c .stay .ensures (c .before .before .before .before .args .grammar)
+
+enum-known-phase : tie.Need-enum-known-phase
+enum-known-phase c = search needs
+
+advance-words-requires : tie.Need-advance-words-requires
+advance-words-requires c κs = search needs
+
+enum-known-phase-2 : tie.Need-enum-known-phase-2
+enum-known-phase-2 c = search needs
+
+enum-told : tie.Need-enum-told
+enum-told c = search needs
+
+advance-label-requires : tie.Need-advance-label-requires
+advance-label-requires c κs = search needs
+
+enum-told-2 : tie.Need-enum-told-2
+enum-told-2 c = search needs
+
+advance-label-requires-2 : tie.Need-advance-label-requires-2
+advance-label-requires-2 c κs = search needs
+
+stay-requires-2 : tie.Need-stay-requires-2
+stay-requires-2 c κs = search needs
+
+advance-body-requires : tie.Need-advance-body-requires
+advance-body-requires c κs = search needs
+
+returns-2 : tie.Need-returns-2
+returns-2 c = c .advance-words .ensures (c .before .before .before .before .before .before .before .args .grammar)
+
+returns-3 : tie.Need-returns-3
+returns-3 c = c .advance-label .ensures Start continues-start (cc)
+
+returns-4 : tie.Need-returns-4
+returns-4 c = c .advance-label2 .ensures Char continues-char (cc)
+
+returns-5 : tie.Need-returns-5
+returns-5 c = c .stay2 .ensures (c .before .before .before .before .before .before .before .before .args .grammar)
+
+returns-6 : tie.Need-returns-6
+returns-6 c = c .advance-body .ensures (c .before .before .before .before .before .args .grammar)
+
+pub advance-run-spec : {M : Type 1} → statement M
+advance-run-spec =
+    tie.close
+    (tie.spec
+    shared-slice-read-if1
+    stay-requires
+    returns
+    enum-known-phase
+    advance-words-requires
+    enum-known-phase-2
+    enum-told
+    advance-label-requires
+    enum-told-2
+    advance-label-requires-2
+    stay-requires-2
+    advance-body-requires
+    returns-2
+    returns-3
+    returns-4
+    returns-5
+    returns-6)

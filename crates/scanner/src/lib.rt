@@ -1,0 +1,676 @@
+// The scan of a text: the machine run over it to its first death or the end, and what is counted beside it.
+// Runs of bytes that keep the machine in phases of one kind are passed at once. Each such function promises that the scan goes on
+// behind the run as if it had read the bytes one by one; the machine's own step decides whatever no run covers.
+ghost use mathlib.Core.Path.{_≡_};
+ghost use mathlib.Core.Bool.{Bool, true, false};
+ghost use Prim.Native.Nat.{_+_, _-_, _*_, _≤_, _<_, _^_};
+ghost use lib.ListN.{length, drop};
+ghost use Rattle.grammar.specs.declared.Grammar.{Grammar};
+ghost use Rattle.machine.proofs.Machine.{state, wordOf, start};
+ghost use Rattle.machine.specs.declared.LabelPhase.{LabelPhase};
+ghost use Rattle.machine.specs.declared.Phase.{Phase};
+ghost use Rattle.machine.specs.declared.Phase.the-variants.{Strict, Word, Label};
+ghost use Rattle.machine.specs.declared.StrictPhase.the-variants.{Data};
+ghost use Rattle.reading.specs.Scan.{Roomy, noTally, bodyTallied, tallied, stopped, scanOf};
+ghost use Rattle.reading.proofs.Scans.{Within};
+ghost use Rattle.decoder.specs.Tables.{groupTable};
+ghost use Rattle.runs.specs.Runs.{between};
+ghost use Rattle.decoder.specs.Decoding.{Decoded};
+ghost use Rattle.scanner.specs.Advances.{positionAt, Advanced, Stopped, Countable, OnCharacter, LinePhases, LinesFrom, LinesFit, Continues, runTallied, othersTallied, linesTallied, boundaryTallied, behindLines};
+use base64::GROUP_BYTES;
+use base64::GROUP_CHARS;
+use grammar::BEGIN;
+use grammar::END;
+use grammar::Grammar;
+use grammar::HYPHENS;
+use grammar::LINE_CHARS;
+use grammar::SP;
+use grammar::TextOffset;
+use machine::Boundary;
+use machine::Kind;
+use machine::LabelPhase;
+use machine::LaxPhase;
+use machine::Part;
+use machine::Phase;
+use machine::StandardPhase;
+use machine::State;
+use machine::StrictPhase;
+use reading::Scan;
+use reading::Tally;
+use runs::Lines;
+
+// How far a scan has come: the offset of the next byte, the machine's state before it, and the tally of those behind it.
+pub struct Position {
+    pub at: usize,
+    pub state: State,
+    pub tally: Tally,
+}
+
+// A scan, and how much of the text was decoded beside it: what stands from one offset to another, as so many bytes of data.
+pub struct DecodingScan {
+    pub scan: Scan,
+    pub from: usize,
+    pub to: usize,
+    pub written: usize,
+}
+
+// Where lines lead, and how many bytes of data they were written as.
+struct DecodedLines {
+    position: Position,
+    written: usize,
+}
+
+// Whether a line of the body begins in a phase, and under which grammar.
+enum BodyLine {
+    Lax,
+    Standard,
+    Strict,
+    Elsewhere,
+}
+
+// A run of characters of a body, counted.
+fn tally_run(tally: Tally, n: usize) -> Tally
+    requires { ⌜ (tally .body + n < 2 ^ 64) × (tally .characters + n < 2 ^ 64) × (0 < n) ⌝ }
+    ensures { λ r. ⌜ r ≡ runTallied n tally ⌝ }
+{
+    let body = tally.body + n;
+    let mut next = tally;
+    next.body = body;
+    next.characters = tally.characters + n;
+    next.last = body - 1;
+    next
+}
+
+// Other bytes of a body, counted.
+fn tally_others(tally: Tally, n: usize) -> Tally
+    requires { ⌜ tally .body + n < 2 ^ 64 ⌝ }
+    ensures { λ r. ⌜ r ≡ othersTallied n tally ⌝ }
+{
+    let mut next = tally;
+    next.body = tally.body + n;
+    next
+}
+
+// Bytes of a boundary, counted.
+fn tally_boundary(boundary: Boundary, tally: Tally, n: usize) -> Tally
+    requires { ⌜ (tally .opening + n < 2 ^ 64) × (tally .closing + n < 2 ^ 64) ⌝ }
+    ensures { λ r. ⌜ r ≡ boundaryTallied boundary n tally ⌝ }
+{
+    let mut next = tally;
+    match boundary {
+        Boundary::Opening => {
+            next.opening = tally.opening + n;
+            next
+        }
+        Boundary::Closing => {
+            next.closing = tally.closing + n;
+            next
+        }
+    }
+}
+
+// A byte of a body, counted.
+fn tally_body(tally: Tally, kind: Kind) -> Tally
+    requires { ⌜ Roomy tally ⌝ }
+    ensures { λ r. ⌜ r ≡ bodyTallied kind tally ⌝ }
+{
+    let at = tally.body;
+    let mut next = tally;
+    next.body = at + 1;
+    match kind {
+        Kind::Tab => next,
+        Kind::Space => next,
+        Kind::Cr => next,
+        Kind::Lf => next,
+        Kind::Feed => next,
+        Kind::Hyphen => next,
+        Kind::Alphabet => {
+            next.characters = tally.characters + 1;
+            next.last = at;
+            next
+        }
+        Kind::Pad => {
+            next.pads = tally.pads + 1;
+            next
+        }
+        Kind::Mark => next,
+        Kind::Other => next,
+    }
+}
+
+// A byte of a part, counted. What stands behind the closing is not counted.
+fn tally_byte(tally: Tally, part: Part, kind: Kind) -> Tally
+    requires { ⌜ Roomy tally ⌝ }
+    ensures { λ r. ⌜ r ≡ tallied part kind tally ⌝ }
+{
+    match part {
+        Part::Before => {
+            let mut next = tally;
+            next.before = tally.before + 1;
+            next
+        }
+        Part::Opening => {
+            let mut next = tally;
+            next.opening = tally.opening + 1;
+            next
+        }
+        Part::Body => tally_body(tally, kind),
+        Part::Closing => {
+            let mut next = tally;
+            next.closing = tally.closing + 1;
+            next
+        }
+        Part::After => tally,
+    }
+}
+
+// A position in a phase, behind a byte that is no CR.
+fn at_phase(at: usize, phase: Phase, tally: Tally) -> Position
+    ensures { λ r. ⌜ r ≡ positionAt at (state phase false) tally ⌝ }
+{
+    Position {
+        at,
+        state: State { phase, cr: false },
+        tally,
+    }
+}
+
+// The characters of a line and the other bytes behind them, counted.
+fn tally_line(tally: Tally, characters: usize, others: usize) -> Tally
+    requires { ⌜ (tally .body + (characters + others) < 2 ^ 64) × (tally .characters + characters < 2 ^ 64) × (0 < characters) ⌝ }
+    ensures { λ r. ⌜ r ≡ othersTallied others (runTallied characters tally) ⌝ }
+{
+    tally_others(tally_run(tally, characters), others)
+}
+
+// Lines of any length, with blanks at their ends, and a run of characters behind them, in the phases in which they may stand. It
+// goes on behind blanks within a line where characters may follow them.
+fn advance_lines(
+    text: &[u8],
+    from: usize,
+    first: State,
+    counted: Tally,
+    within: Phase,
+    behind: Phase,
+    trailing: Phase,
+    resumes: bool,
+) -> Position
+    requires { ⌜ Countable (now text) counted from ⌝ }
+    ensures { λ r. ⌜ ((g : Grammar) → LinePhases g (first .phase) within behind trailing resumes → Advanced g (now (text .entry)) first counted from (r .state) (r .tally) (r .at)) ⌝ }
+{
+    let mut at = from;
+    let mut state = first;
+    let mut tally = counted;
+    while at < text.len() {
+        let line = runs::line_at(text, at);
+        let end = line.end;
+        if line.characters == at {
+            return Position { at, state, tally };
+        }
+        let told = tally_line(tally, line.characters - at, end - line.characters);
+        if line.blanks < end {
+            at = end;
+            tally = told;
+            state = State {
+                phase: behind,
+                cr: false,
+            };
+        } else {
+            if line.blanks == line.characters {
+                return at_phase(end, within, told);
+            }
+            if !resumes {
+                return at_phase(end, trailing, told);
+            }
+            at = end;
+            tally = told;
+            state = State {
+                phase: trailing,
+                cr: false,
+            };
+        }
+    }
+    Position { at, state, tally }
+}
+
+// Where a line that begins here ends at the latest.
+fn line_limit(from: usize, end: usize) -> usize
+    requires { ⌜ from ≤ end ⌝ }
+    ensures { λ r. ⌜ (from ≤ r) × (r ≤ end) × (r ≤ from + 64) ⌝ }
+{
+    if LINE_CHARS < end - from {
+        return from + LINE_CHARS;
+    }
+    end
+}
+
+// A run of characters of one strict line.
+fn advance_in_line(text: &[u8], from: usize, first: State, counted: Tally) -> Position
+    requires { ⌜ Countable (now text) counted from ⌝ }
+    ensures { λ r. ⌜ ((g : Grammar) → OnCharacter g (first .phase) (Strict (Data 63)) → Advanced g (now (text .entry)) first counted from (r .state) (r .tally) (r .at)) ⌝ }
+{
+    let end = runs::short_run_end(text, from, line_limit(from, text.len()));
+    if end == from {
+        return Position {
+            at: from,
+            state: first,
+            tally: counted,
+        };
+    }
+    let n = end - from;
+    let room = (LINE_CHARS - n) as u8;
+    at_phase(
+        end,
+        Phase::Strict(StrictPhase::Data(room)),
+        tally_run(counted, n),
+    )
+}
+
+// Lines of whole groups of a body, counted.
+fn tally_lines(tally: Tally, from: usize, lines: Lines) -> Tally
+    requires { ⌜ LinesFit from tally (lines .end) (lines .groups) (lines .last) × (0 < lines .groups) ⌝ }
+    ensures { λ r. ⌜ r ≡ linesTallied from (lines .end) (lines .groups) (lines .last) tally ⌝ }
+{
+    let mut next = tally;
+    next.body = tally.body + (lines.end - from);
+    next.characters = tally.characters + GROUP_CHARS * lines.groups;
+    next.last = tally.body + (lines.last - from) - 1;
+    next
+}
+
+// The position behind lines, which lead to one phase however many there are.
+fn behind_lines(from: usize, first: State, counted: Tally, behind: Phase, lines: Lines) -> Position
+    requires { ⌜ LinesFit from counted (lines .end) (lines .groups) (lines .last) ⌝ }
+    ensures { λ r. ⌜ r ≡ behindLines from first counted behind (lines .end) (lines .groups) (lines .last) ⌝ }
+{
+    if lines.groups == 0 {
+        return Position {
+            at: from,
+            state: first,
+            tally: counted,
+        };
+    }
+    at_phase(lines.end, behind, tally_lines(counted, from, lines))
+}
+
+// The same of lines that were decoded.
+fn decoded_behind(
+    from: usize,
+    first: State,
+    counted: Tally,
+    behind: Phase,
+    lines: Lines,
+) -> DecodedLines
+    requires { ⌜ LinesFit from counted (lines .end) (lines .groups) (lines .last) × (3 * lines .groups < 2 ^ 64) ⌝ }
+    ensures { λ r. ⌜ (r .position ≡ behindLines from first counted behind (lines .end) (lines .groups) (lines .last)) × (r .written ≡ 3 * lines .groups) ⌝ }
+{
+    DecodedLines {
+        position: behind_lines(from, first, counted, behind, lines),
+        written: GROUP_BYTES * lines.groups,
+    }
+}
+
+// Full lines of the strict grammar, and a run of characters of a further line behind them.
+// Full lines of the strict grammar, and a run of characters of a further line behind them.
+fn advance_strict_lines(text: &[u8], from: usize, first: State, counted: Tally) -> Position
+    requires { ⌜ Countable (now text) counted from ⌝ }
+    ensures { λ r. ⌜ ((g : Grammar) → OnCharacter g (first .phase) (Strict (Data 63)) → Advanced g (now (text .entry)) first counted from (r .state) (r .tally) (r .at)) ⌝ }
+{
+    let line = Phase::Strict(StrictPhase::Line);
+    let lines = behind_lines(from, first, counted, line, runs::full_lines(text, from));
+    let at = lines.at;
+    let state = lines.state;
+    let tally = lines.tally;
+    advance_in_line(text, at, state, tally)
+}
+
+// Whether a line of the body begins in this phase.
+fn body_line(phase: Phase) -> BodyLine
+    ensures { λ r. ⌜ LinesFrom phase r ⌝ }
+{
+    match phase {
+        Phase::Lax(lax) => match lax {
+            LaxPhase::Data => BodyLine::Lax,
+            _ => BodyLine::Elsewhere,
+        },
+        Phase::Standard(standard) => match standard {
+            StandardPhase::Leading => BodyLine::Standard,
+            StandardPhase::BlankLine => BodyLine::Standard,
+            StandardPhase::Line => BodyLine::Standard,
+            _ => BodyLine::Elsewhere,
+        },
+        Phase::Strict(strict) => match strict {
+            StrictPhase::First => BodyLine::Strict,
+            StrictPhase::Line => BodyLine::Strict,
+            _ => BodyLine::Elsewhere,
+        },
+        _ => BodyLine::Elsewhere,
+    }
+}
+
+// The lines that begin in a phase, decoded as they are passed; none where no line of the body begins.
+// The lines that begin in a phase, decoded as they are passed; none where no line of the body begins.
+fn decode_lines(
+    table: &[u32; 1024],
+    text: &[u8],
+    from: usize,
+    first: State,
+    counted: Tally,
+    out: &mut [u8],
+) -> DecodedLines
+    requires { ⌜ (now table ≡ groupTable) × Countable (now text) counted from ⌝ }
+    ensures { λ r. ⌜ (length (now (out .exit)) ≡ length (now (out .entry))) × Decoded (between (now (text .entry)) from (r .position .at)) (now (out .exit)) (r .written) × ((g : Grammar) → Advanced g (now (text .entry)) first counted from (r .position .state) (r .position .tally) (r .position .at)) ⌝ }
+{
+    let phase = first.phase;
+    match body_line(phase) {
+        BodyLine::Lax => {
+            let data = Phase::Lax(LaxPhase::Data);
+            let lines = decoder::put_lines(table, text, from, out);
+            decoded_behind(from, first, counted, data, lines)
+        }
+        BodyLine::Standard => {
+            let line = Phase::Standard(StandardPhase::Line);
+            let lines = decoder::put_lines(table, text, from, out);
+            decoded_behind(from, first, counted, line, lines)
+        }
+        BodyLine::Strict => {
+            let line = Phase::Strict(StrictPhase::Line);
+            let lines = decoder::put_full_lines(table, text, from, out);
+            decoded_behind(from, first, counted, line, lines)
+        }
+        BodyLine::Elsewhere => DecodedLines {
+            position: Position {
+                at: from,
+                state: first,
+                tally: counted,
+            },
+            written: 0,
+        },
+    }
+}
+
+// No run.
+fn stay(text: &[u8], at: usize, state: State, tally: Tally) -> Position
+    requires { ⌜ at ≤ length (now text) ⌝ }
+    ensures { λ r. ⌜ ((g : Grammar) → Advanced g (now (text .entry)) state tally at (r .state) (r .tally) (r .at)) ⌝ }
+{
+    Position { at, state, tally }
+}
+
+// The rest of "-----BEGIN " or "-----END ", if it stands there.
+fn advance_word(
+    text: &[u8],
+    at: usize,
+    state: State,
+    tally: Tally,
+    boundary: Boundary,
+    word: &[u8],
+    read: usize,
+) -> Position
+    requires { ⌜ Countable (now text) tally at × (now word ≡ wordOf boundary) × (state .phase ≡ Word boundary read) ⌝ }
+    ensures { λ r. ⌜ ((g : Grammar) → Advanced g (now (text .entry)) state tally at (r .state) (r .tally) (r .at)) ⌝ }
+{
+    if word.len() <= read {
+        return stay(text, at, state, tally);
+    }
+    if !runs::stands(text, at, word, read) {
+        return stay(text, at, state, tally);
+    }
+    let n = word.len() - read;
+    Position {
+        at: at + n,
+        state: State {
+            phase: Phase::Label(boundary, LabelPhase::Start),
+            cr: false,
+        },
+        tally: tally_boundary(boundary, tally, n),
+    }
+}
+
+// Characters of a label, and the five hyphens behind them.
+fn advance_label(
+    text: &[u8],
+    at: usize,
+    grammar: Grammar,
+    state: State,
+    tally: Tally,
+    boundary: Boundary,
+) -> Position
+    requires { ⌜ Countable (now text) tally at ⌝ }
+    ensures { λ r. ⌜ ((p : LabelPhase) → Continues p → state .phase ≡ Label boundary p → Advanced grammar (now (text .entry)) state tally at (r .state) (r .tally) (r .at)) ⌝ }
+{
+    let end = runs::label_run_end(text, at);
+    let hyphens = HYPHENS;
+    if runs::stands(text, end, &hyphens, 0) {
+        return Position {
+            at: end + 5,
+            state: State {
+                phase: engine::behind_boundary(grammar, boundary),
+                cr: false,
+            },
+            tally: tally_boundary(boundary, tally, end + 5 - at),
+        };
+    }
+    if end == at {
+        return stay(text, at, state, tally);
+    }
+    Position {
+        at: end,
+        state: State {
+            phase: Phase::Label(boundary, LabelPhase::Char),
+            cr: false,
+        },
+        tally: tally_boundary(boundary, tally, end - at),
+    }
+}
+
+// Lines of the body, where one begins.
+fn advance_body(text: &[u8], at: usize, state: State, tally: Tally) -> Position
+    requires { ⌜ Countable (now text) tally at ⌝ }
+    ensures { λ r. ⌜ ((g : Grammar) → Advanced g (now (text .entry)) state tally at (r .state) (r .tally) (r .at)) ⌝ }
+{
+    let phase = state.phase;
+    match body_line(phase) {
+        BodyLine::Lax => {
+            let data = Phase::Lax(LaxPhase::Data);
+            advance_lines(text, at, state, tally, data, data, data, true)
+        }
+        BodyLine::Standard => {
+            let data = Phase::Standard(StandardPhase::Data);
+            let line = Phase::Standard(StandardPhase::Line);
+            let trailing = Phase::Standard(StandardPhase::Trailing);
+            advance_lines(text, at, state, tally, data, line, trailing, false)
+        }
+        BodyLine::Strict => advance_strict_lines(text, at, state, tally),
+        BodyLine::Elsewhere => stay(text, at, state, tally),
+    }
+}
+
+// The rest of the word of a boundary.
+fn advance_words(
+    text: &[u8],
+    at: usize,
+    state: State,
+    tally: Tally,
+    boundary: Boundary,
+    read: u8,
+) -> Position
+    requires { ⌜ Countable (now text) tally at × (state .phase ≡ Word boundary read) ⌝ }
+    ensures { λ r. ⌜ ((g : Grammar) → Advanced g (now (text .entry)) state tally at (r .state) (r .tally) (r .at)) ⌝ }
+{
+    match boundary {
+        Boundary::Opening => {
+            let begin = BEGIN;
+            advance_word(text, at, state, tally, boundary, &begin, read as usize)
+        }
+        Boundary::Closing => {
+            let end = END;
+            advance_word(text, at, state, tally, boundary, &end, read as usize)
+        }
+    }
+}
+
+// The run that stands at a place, if the phase has one. None begins with white, where the search for one would be in vain.
+fn advance_run(text: &[u8], at: usize, grammar: Grammar, state: State, tally: Tally) -> Position
+    requires { ⌜ Countable (now text) tally at × (at < length (now text)) ⌝ }
+    ensures { λ r. ⌜ Advanced grammar (now (text .entry)) state tally at (r .state) (r .tally) (r .at) ⌝ }
+{
+    if text[at] <= SP {
+        return stay(text, at, state, tally);
+    }
+    let phase = state.phase;
+    match phase {
+        Phase::Word(boundary, read) => advance_words(text, at, state, tally, boundary, read),
+        Phase::Label(boundary, label) => match label {
+            LabelPhase::Start => advance_label(text, at, grammar, state, tally, boundary),
+            LabelPhase::Char => advance_label(text, at, grammar, state, tally, boundary),
+            _ => stay(text, at, state, tally),
+        },
+        _ => advance_body(text, at, state, tally),
+    }
+}
+
+// Whether a scan is to stop before a byte: it was asked to at the body's first line, and that begins here. White may stand before
+// it.
+fn stops(asked: bool, phase: Phase, b: u8) -> bool
+    ensures { λ r. ⌜ (asked ≡ false → r ≡ false) ⌝ }
+{
+    if !asked {
+        return false;
+    }
+    if b <= SP {
+        return false;
+    }
+    match body_line(phase) {
+        BodyLine::Elsewhere => false,
+        _ => true,
+    }
+}
+
+// Scans a text from a position on, to its first death or the end, or up to the body's first line where that is asked.
+fn scan_on(
+    text: &[u8],
+    from: usize,
+    grammar: Grammar,
+    first: State,
+    counted: Tally,
+    early: bool,
+) -> Position
+    requires { ⌜ (from ≤ length (now text)) × Within counted from ⌝ }
+    ensures { λ r. ⌜ Advanced grammar (now (text .entry)) first counted from (r .state) (r .tally) (r .at) × (early ≡ false → Stopped grammar (now (text .entry)) (r .state) (r .tally) (r .at)) ⌝ }
+{
+    let mut i = from;
+    let mut state = first;
+    let mut tally = counted;
+    while i < text.len() {
+        let b = text[i];
+        let phase = state.phase;
+        if stops(early, phase, b) {
+            return Position {
+                at: i,
+                state,
+                tally,
+            };
+        }
+        let run = advance_run(text, i, grammar, state, tally);
+        let at = run.at;
+        if i < at {
+            let reached = run.state;
+            let counted = run.tally;
+            i = at;
+            state = reached;
+            tally = counted;
+        } else {
+            let next = engine::step(state, grammar, b);
+            let after = next.phase;
+            if engine::is_dead(after) {
+                return Position {
+                    at: i,
+                    state,
+                    tally,
+                };
+            }
+            tally = tally_byte(
+                tally,
+                engine::byte_part(engine::part_of(phase), engine::part_of(after)),
+                engine::kind_of(b),
+            );
+            state = next;
+            i += 1;
+        }
+    }
+    Position {
+        at: i,
+        state,
+        tally,
+    }
+}
+
+// Nothing counted yet.
+fn no_tally() -> Tally
+    ensures { λ r. ⌜ r ≡ noTally ⌝ }
+{
+    Tally {
+        before: 0,
+        opening: 0,
+        body: 0,
+        closing: 0,
+        characters: 0,
+        pads: 0,
+        last: 0,
+    }
+}
+
+// What a position tells of a scan that began at an offset.
+fn scan_at(begin: usize, position: Position) -> Scan
+    requires { ⌜ begin ≤ position .at ⌝ }
+    ensures { λ r. ⌜ r ≡ stopped (position .state) (position .at - begin) (position .tally) ⌝ }
+{
+    let state = position.state;
+    let phase = state.phase;
+    let tally = position.tally;
+    Scan {
+        phase,
+        length: position.at - begin,
+        tally,
+    }
+}
+
+// Reads a text from an offset on with the machine, to its first death or the end.
+pub fn scan_text(text: &[u8], from: TextOffset, grammar: Grammar, first: State) -> Scan
+    requires { ⌜ from .0 ≤ length (now text) ⌝ }
+    ensures { λ r. ⌜ r ≡ scanOf grammar first 0 noTally (drop (from .0) (now (text .entry))) ⌝ }
+{
+    let begin = from.0;
+    scan_at(
+        begin,
+        scan_on(text, begin, grammar, first, no_tally(), false),
+    )
+}
+
+// Reads a text in the same way from its start on, and decodes the full lines that its body begins with as it passes them.
+pub fn scan_decoding(
+    table: &[u32; 1024],
+    text: &[u8],
+    grammar: Grammar,
+    out: &mut [u8],
+) -> DecodingScan
+    requires { ⌜ now table ≡ groupTable ⌝ }
+    ensures { λ r. ⌜ (r .scan ≡ scanOf grammar (start grammar) 0 noTally (now (text .entry))) × (length (now (out .exit)) ≡ length (now (out .entry))) × (r .from ≤ r .to) × Decoded (between (now (text .entry)) (r .from) (r .to)) (now (out .exit)) (r .written) ⌝ }
+{
+    let opened = scan_on(text, 0, grammar, engine::start(grammar), no_tally(), true);
+    let from = opened.at;
+    let state = opened.state;
+    let tally = opened.tally;
+    let lines = decode_lines(table, text, from, state, tally, out);
+    let behind = lines.position;
+    let to = behind.at;
+    let state = behind.state;
+    let tally = behind.tally;
+    DecodingScan {
+        scan: scan_at(0, scan_on(text, to, grammar, state, tally, false)),
+        from,
+        to,
+        written: lines.written,
+    }
+}
