@@ -107,7 +107,7 @@ fn walk(text: &[u8], grammar: Grammar, table: &mut [u32]) -> Survey
     let mut count = 0;
     while at < text.len() {
         let from = TextOffset(at);
-        let scan = reader::scan_text(text, from, grammar, first);
+        let scan = scanner::scan_text(text, from, grammar, first);
         let length = scan.length;
         match judge_message(text, grammar, from, scan) {
             Judgement::Sound(layout, size) => {
@@ -128,7 +128,7 @@ fn walk(text: &[u8], grammar: Grammar, table: &mut [u32]) -> Survey
 fn survey_known(text: &[u8], grammar: Grammar, table: &mut [u32]) -> Survey
     ensures { λ r. ⌜ (r ≡ surveyed (walkBy (Known grammar) (now (text .entry)))) × Filled (walkBy (Known grammar) (now (text .entry))) (now (table .exit)) ⌝ }
 {
-    if reader::TEXT_LIMIT < text.len() {
+    if reading::TEXT_LIMIT < text.len() {
         return Survey::Refused(Refusal::TextTooLong);
     }
     clear(table);

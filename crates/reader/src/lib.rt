@@ -1,57 +1,43 @@
-// Reading one message: the scan of a text, the checks 1 to 10, the data and the label.
+// Reading one message: the checks 1 to 10 of a text, its data and its label.
 // The definitions that the contracts cite stand in the crate `reading`.
 ghost use mathlib.Core.Path.{_≡_};
 ghost use mathlib.Core.List.{_++_};
 ghost use Prim.Native.Nat.{_+_, _-_, _≤_, _<_};
-ghost use lib.ListN.{length, drop, replicate};
-ghost use Rattle.base64.specs.Alphabet.{Sextet, valueOf};
+ghost use lib.ListN.{length, replicate};
+ghost use Rattle.base64.specs.Alphabet.{valueOf};
 ghost use Rattle.base64.specs.Groups.{decode};
 ghost use Rattle.grammar.specs.Message.{characters};
-ghost use Rattle.reading.specs.Data.{sameBytes, HoldsValue, fed, fedByte, spareOf};
+ghost use Rattle.reading.specs.Data.{sameBytes, spareOf};
+ghost use Rattle.runs.specs.Runs.{between};
+ghost use Rattle.decoder.specs.Tables.{groupTable};
+ghost use Rattle.decoder.specs.Decoding.{Decoded};
 ghost use Rattle.grammar.specs.declared.Numbered.the-variants.{Known};
 ghost use Rattle.machine.proofs.Machine.{start};
 ghost use Rattle.reading.specs.Answers.{refusalNumber, refusalPlace, numberOf};
 ghost use Rattle.reading.specs.Meaning.{Reads, HandsBack};
-ghost use Rattle.reading.specs.Scan.{Roomy, noTally, bodyTallied, tallied, scanOf};
-ghost use Rattle.reading.specs.Read.{Fits, Lies, spanned, layoutOf, grammarRefusal, labelsAgree, countsFit, lastAt, spareClear, judgedParts, judgedScan, judgedBy, judgeOf, readOf, outputOf, labelOf};
+ghost use Rattle.reading.specs.Scan.{noTally, scanOf};
+ghost use Rattle.reading.specs.Read.{Fits, Lies, spanned, layoutOf, grammarRefusal, labelsAgree, countsFit, lastAt, spareClear, judgedParts, judgedScan, judgedBy, judgeOf, answered, readOf, written, outputOf, labelOf};
 use base64::Value;
 use grammar::Grammar;
 use grammar::Numbered;
 use grammar::TextOffset;
-use machine::Kind;
 use machine::Part;
-use machine::State;
-use reading::Fed;
 use reading::Found;
 use reading::Judgement;
+use reading::LABEL_LIMIT;
 use reading::Layout;
-use reading::Open;
 use reading::ReadAnswer;
 use reading::Refusal;
 use reading::Scan;
 use reading::Span;
+use reading::TEXT_LIMIT;
 use reading::Tally;
-
-// The longest text and the longest label that are read, in bytes.
-pub const TEXT_LIMIT: usize = 16777216;
-
-pub const LABEL_LIMIT: usize = 64;
+use scanner::DecodingScan;
 
 // How many bytes of a boundary are not its label's: "-----BEGIN " or "-----END ", and five hyphens.
 const OPENING_FRAME: usize = 16;
 
 const CLOSING_FRAME: usize = 14;
-
-// Sets every byte to zero.
-pub fn clear(out: &mut [u8])
-    ensures { λ _. ⌜ now (out .exit) ≡ replicate (length (now (out .entry))) 0 ⌝ }
-{
-    let mut i = 0;
-    while i < out.len() {
-        out[i] = 0;
-        i += 1;
-    }
-}
 
 // Whether two slices hold the same bytes.
 pub fn equal(a: &[u8], b: &[u8]) -> bool
@@ -81,153 +67,6 @@ fn spare_bits(count: usize, last: u8) -> u8
         2 => value % 16,
         3 => value % 4,
         _ => 0,
-    }
-}
-
-// The next value of an open group.
-fn feed(group: Open, value: u8) -> Fed
-    requires { ⌜ HoldsValue group × Sextet value ⌝ }
-    ensures { λ r. ⌜ r ≡ fed group value ⌝ }
-{
-    match group {
-        Open::Start => Fed::Held(Open::One(value)),
-        Open::One(a) => Fed::Byte(a * 4 + value / 16, Open::Two(value)),
-        Open::Two(b) => Fed::Byte(b % 16 * 16 + value / 4, Open::Three(value)),
-        Open::Three(c) => Fed::Byte(c % 4 * 64 + value, Open::Start),
-    }
-}
-
-// The next byte of a body. One that is no character of the alphabet changes nothing.
-fn feed_byte(group: Open, c: u8) -> Fed
-    requires { ⌜ HoldsValue group ⌝ }
-    ensures { λ r. ⌜ r ≡ fedByte group c ⌝ }
-{
-    match base64::value_of(c) {
-        Value::Of(value) => feed(group, value),
-        Value::Outside => Fed::Held(group),
-    }
-}
-
-// Writes the data of a body to the start of `out`, and zeros behind it: of what stood there nothing is left.
-fn put_data(body: &[u8], out: &mut [u8])
-    requires { ⌜ length (decode (characters (now body))) ≤ length (now out) ⌝ }
-    ensures { λ _. ⌜ now (out .exit) ≡ decode (characters (now (body .entry))) ++ replicate (length (now (out .entry)) - length (decode (characters (now (body .entry))))) 0 ⌝ }
-{
-    clear(out);
-    let mut group = Open::Start;
-    let mut written = 0;
-    let mut i = 0;
-    while i < body.len() {
-        match feed_byte(group, body[i]) {
-            Fed::Held(next) => {
-                group = next;
-            }
-            Fed::Byte(byte, next) => {
-                out[written] = byte;
-                written += 1;
-                group = next;
-            }
-        }
-        i += 1;
-    }
-}
-
-// A byte of a body, counted.
-fn tally_body(tally: Tally, kind: Kind) -> Tally
-    requires { ⌜ Roomy tally ⌝ }
-    ensures { λ r. ⌜ r ≡ bodyTallied kind tally ⌝ }
-{
-    let at = tally.body;
-    let mut next = tally;
-    next.body = at + 1;
-    match kind {
-        Kind::Tab => next,
-        Kind::Space => next,
-        Kind::Cr => next,
-        Kind::Lf => next,
-        Kind::Feed => next,
-        Kind::Hyphen => next,
-        Kind::Alphabet => {
-            next.characters = tally.characters + 1;
-            next.last = at;
-            next
-        }
-        Kind::Pad => {
-            next.pads = tally.pads + 1;
-            next
-        }
-        Kind::Mark => next,
-        Kind::Other => next,
-    }
-}
-
-// A byte of a part, counted. What stands behind the closing is not counted.
-fn tally_byte(tally: Tally, part: Part, kind: Kind) -> Tally
-    requires { ⌜ Roomy tally ⌝ }
-    ensures { λ r. ⌜ r ≡ tallied part kind tally ⌝ }
-{
-    match part {
-        Part::Before => {
-            let mut next = tally;
-            next.before = tally.before + 1;
-            next
-        }
-        Part::Opening => {
-            let mut next = tally;
-            next.opening = tally.opening + 1;
-            next
-        }
-        Part::Body => tally_body(tally, kind),
-        Part::Closing => {
-            let mut next = tally;
-            next.closing = tally.closing + 1;
-            next
-        }
-        Part::After => tally,
-    }
-}
-
-// Reads a text from an offset on with the machine, to its first death or the end.
-pub fn scan_text(text: &[u8], from: TextOffset, grammar: Grammar, first: State) -> Scan
-    ensures { λ r. ⌜ r ≡ scanOf grammar first 0 noTally (drop (from .0) (now (text .entry))) ⌝ }
-{
-    let begin = from.0;
-    let mut state = first;
-    let mut tally = Tally {
-        before: 0,
-        opening: 0,
-        body: 0,
-        closing: 0,
-        characters: 0,
-        pads: 0,
-        last: 0,
-    };
-    let mut i = begin;
-    while i < text.len() {
-        let b = text[i];
-        let next = engine::step(state, grammar, b);
-        let before = state.phase;
-        let after = next.phase;
-        if engine::is_dead(after) {
-            return Scan {
-                phase: before,
-                length: i - begin,
-                tally,
-            };
-        }
-        tally = tally_byte(
-            tally,
-            engine::byte_part(engine::part_of(before), engine::part_of(after)),
-            engine::kind_of(b),
-        );
-        state = next;
-        i += 1;
-    }
-    let phase = state.phase;
-    Scan {
-        phase,
-        length: i - begin,
-        tally,
     }
 }
 
@@ -372,7 +211,7 @@ fn judge_known(text: &[u8], grammar: Grammar) -> Judgement
     judge_scan(
         text,
         grammar,
-        scan_text(text, TextOffset(0), grammar, engine::start(grammar)),
+        scanner::scan_text(text, TextOffset(0), grammar, engine::start(grammar)),
     )
 }
 
@@ -386,25 +225,66 @@ pub fn judge(text: &[u8], grammar: u32) -> Judgement
     }
 }
 
+// Writes the data of a body, and zeros behind it. The lines that the scan has decoded are not decoded again: those that the body
+// begins with, but for bytes outside the alphabet.
+fn put_body(table: &[u32; 1024], text: &[u8], body: Span, pass: DecodingScan, out: &mut [u8])
+    requires { ⌜ (now table ≡ groupTable) × (body .at .0 + body .length ≤ length (now text)) × (length (decode (characters (spanned (now text) body))) ≤ length (now out)) × (pass .from ≤ pass .to) × Decoded (between (now text) (pass .from) (pass .to)) (now out) (pass .written) ⌝ }
+    ensures { λ _. ⌜ now (out .exit) ≡ decode (characters (spanned (now (text .entry)) body)) ++ replicate (length (now (out .entry)) - length (decode (characters (spanned (now (text .entry)) body)))) 0 ⌝ }
+{
+    let start = body.at;
+    let begin = start.0;
+    let part = part_at(text, body);
+    if begin <= pass.from {
+        if pass.to - begin <= body.length {
+            if pass.from - begin <= decoder::skip_outside(table, part, 0) {
+                decoder::put_data(table, part, pass.to - begin, out, pass.written);
+                return;
+            }
+        }
+    }
+    decoder::put_data(table, part, 0, out, 0);
+}
+
+// Reads a text that is to be one message of a grammar: the lines of its body are decoded while it is scanned, and cleared with
+// the rest of the output where it is refused.
+fn read_known(text: &[u8], grammar: Grammar, out: &mut [u8]) -> ReadAnswer
+    ensures { λ r. ⌜ (r ≡ answered (judgedBy (Known grammar) (now (text .entry))) (length (now (out .entry)))) × (now (out .exit) ≡ written (judgedBy (Known grammar) (now (text .entry))) (now (text .entry)) (length (now (out .entry)))) ⌝ }
+{
+    if TEXT_LIMIT < text.len() {
+        output::clear(out);
+        return ReadAnswer::Refused(Refusal::TextTooLong);
+    }
+    let table = decoder::group_table();
+    let pass = scanner::scan_decoding(&table, text, grammar, out);
+    let scan = pass.scan;
+    match judge_scan(text, grammar, scan) {
+        Judgement::Sound(layout, size) => {
+            let label = layout.opened;
+            let body = layout.body;
+            if out.len() < size.0 {
+                output::clear(out);
+                return ReadAnswer::OutputTooSmall(Found { size, label });
+            }
+            put_body(&table, text, body, pass, out);
+            ReadAnswer::Accepted(Found { size, label })
+        }
+        Judgement::Refused(refusal) => {
+            output::clear(out);
+            ReadAnswer::Refused(refusal)
+        }
+    }
+}
+
 // Reads a text that is to be one message of the grammar of this number. After `Accepted` the output holds the data and then
 // zeros, after anything else zeros only, whatever it held before. Any bytes may come in, any number and any length.
 pub fn read(text: &[u8], grammar: u32, out: &mut [u8]) -> ReadAnswer
     ensures { λ r. ⌜ (r ≡ readOf (now (text .entry)) grammar (length (now (out .entry)))) × (now (out .exit) ≡ outputOf (now (text .entry)) grammar (length (now (out .entry)))) × Reads (now (text .entry)) grammar (length (now (out .entry))) r (now (out .exit)) ⌝ }
 {
-    match judge(text, grammar) {
-        Judgement::Sound(layout, size) => {
-            let label = layout.opened;
-            let body = layout.body;
-            if out.len() < size.0 {
-                clear(out);
-                return ReadAnswer::OutputTooSmall(Found { size, label });
-            }
-            put_data(part_at(text, body), out);
-            ReadAnswer::Accepted(Found { size, label })
-        }
-        Judgement::Refused(refusal) => {
-            clear(out);
-            ReadAnswer::Refused(refusal)
+    match Grammar::from_number(grammar) {
+        Numbered::Known(known) => read_known(text, known, out),
+        Numbered::Unknown => {
+            output::clear(out);
+            ReadAnswer::Refused(Refusal::UnknownGrammar)
         }
     }
 }

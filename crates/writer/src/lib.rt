@@ -14,9 +14,18 @@ ghost use Rattle.writing.specs.Text.{lineEnd, inLines, writtenLines, writtenTex
 ghost use Rattle.writing.specs.Meaning.{Writes};
 ghost use Rattle.writing.specs.Write.{isLabel, judgeOf, writeOf, writeOutput};
 ghost use Rattle.writing.proofs.Placed.{Put};
-ghost use Rattle.writing.proofs.Progress.{groupChars, WholeGroups, lineBreak, roomThen, groupText, boundaryLine};
+ghost use Rattle.writing.proofs.Progress.{groupChars, WholeGroups, lineBreak, roomThen, groupText, boundaryLine, Wrote};
+use base64::GROUP_BYTES;
+use base64::GROUP_CHARS;
+use grammar::BEGIN;
+use grammar::END;
+use grammar::HYPHENS;
+use grammar::LF;
+use grammar::LINE_BYTES;
+use grammar::LINE_CHARS;
 use machine::LabelPhase;
 use machine::LabelTarget;
+use reading::LABEL_LIMIT;
 use writing::Cursor;
 use writing::Judgement;
 use writing::TextSize;
@@ -26,20 +35,13 @@ use writing::WriteRefusal;
 // The longest data that is written, in bytes.
 pub const DATA_LIMIT: usize = 8388608;
 
-// The characters of a full line, and the bytes that they stand for; the same of a group.
-const LINE_CHARS: usize = 64;
+// Characters and bytes of four groups.
+const FOUR_CHARS: usize = 4 * GROUP_CHARS;
 
-const LINE_BYTES: usize = 48;
-
-const GROUP_CHARS: usize = 4;
-
-const GROUP_BYTES: usize = 3;
+const FOUR_BYTES: usize = 4 * GROUP_BYTES;
 
 // What a text has beside labels, characters and their line ends: the rest of its boundaries, and the line ends of these.
 const FRAME: usize = 32;
-
-// The end of a boundary.
-const HYPHENS: [u8; 5] = *b"-----";
 
 // Whether a label may end in this phase.
 fn label_ends(phase: LabelPhase) -> bool
@@ -94,7 +96,7 @@ fn text_size(label: usize, content: usize) -> TextSize
 fn judge(label: &[u8], content: &[u8]) -> Judgement
     ensures { λ r. ⌜ r ≡ judgeOf (now (label .entry)) (now (content .entry)) ⌝ }
 {
-    if reader::LABEL_LIMIT < label.len() {
+    if LABEL_LIMIT < label.len() {
         return Judgement::Refused(WriteRefusal::LabelTooLong);
     }
     if !is_label(label) {
@@ -129,7 +131,7 @@ fn put_end(out: &mut [u8], at: usize) -> usize
     requires { ⌜ at + length lineEnd ≤ length (now out) ⌝ }
     ensures { λ r. ⌜ Put (now (out .entry)) at lineEnd (now (out .exit)) r ⌝ }
 {
-    out[at] = engine::LF;
+    out[at] = LF;
     at + 1
 }
 
@@ -204,6 +206,41 @@ fn put_last_line(table: &[u8; 64], rest: &[u8], out: &mut [u8], at: usize, room:
     put_end(out, at)
 }
 
+// Writes a group of three bytes within a line. It has its own stores: an array of four lent to a function costs a tenth.
+fn put_whole_group(table: &[u8; 64], content: &[u8], i: usize, out: &mut [u8], at: usize)
+    requires { ⌜ (now table ≡ alphabet) × (i + 3 ≤ length (now content)) × (at + 4 ≤ length (now out)) ⌝ }
+    ensures { λ _. ⌜ Wrote (now (content .entry)) (now (out .entry)) (now (out .exit)) at i 1 ⌝ }
+{
+    let group = base64::encode_three(table, content[i], content[i + 1], content[i + 2]);
+    out[at] = group[0];
+    out[at + 1] = group[1];
+    out[at + 2] = group[2];
+    out[at + 3] = group[3];
+}
+
+// Writes four groups within a line.
+fn put_four_groups(table: &[u8; 64], content: &[u8], i: usize, out: &mut [u8], at: usize)
+    requires { ⌜ (now table ≡ alphabet) × (i + 12 ≤ length (now content)) × (at + 16 ≤ length (now out)) ⌝ }
+    ensures { λ _. ⌜ Wrote (now (content .entry)) (now (out .entry)) (now (out .exit)) at i 4 ⌝ }
+{
+    put_whole_group(table, content, i, out, at);
+    put_whole_group(table, content, i + 3, out, at + 4);
+    put_whole_group(table, content, i + 6, out, at + 8);
+    put_whole_group(table, content, i + 9, out, at + 12);
+}
+
+// Writes the characters of a full line, in a loop: four calls in a row would not be made part of it.
+fn put_full_line(table: &[u8; 64], content: &[u8], i: usize, out: &mut [u8], at: usize)
+    requires { ⌜ (now table ≡ alphabet) × (i + 48 ≤ length (now content)) × (at + 64 ≤ length (now out)) ⌝ }
+    ensures { λ _. ⌜ Wrote (now (content .entry)) (now (out .entry)) (now (out .exit)) at i 16 ⌝ }
+{
+    let mut q = 0;
+    while q < LINE_CHARS / FOUR_CHARS {
+        put_four_groups(table, content, i + FOUR_BYTES * q, out, at + FOUR_CHARS * q);
+        q += 1;
+    }
+}
+
 // Writes the lines of the data.
 fn put_lines(table: &[u8; 64], content: &[u8], out: &mut [u8], from: usize) -> usize
     requires { ⌜ (now table ≡ alphabet) × (from + length (writtenLines (now content)) ≤ length (now out)) ⌝ }
@@ -212,6 +249,14 @@ fn put_lines(table: &[u8; 64], content: &[u8], out: &mut [u8], from: usize) -> u
     let mut at = from;
     let mut room = LINE_CHARS;
     let mut i = 0;
+    while LINE_BYTES <= content.len() - i {
+        let cursor = break_line(out, at, room);
+        let start = cursor.at;
+        put_full_line(table, content, i, out, start);
+        at = start + LINE_CHARS;
+        room = 0;
+        i += LINE_BYTES;
+    }
     while 2 < content.len() - i {
         let cursor = put_group(
             out,
@@ -232,12 +277,12 @@ fn put_text(label: &[u8], content: &[u8], out: &mut [u8])
     ensures { λ _. ⌜ now (out .exit) ≡ writtenText (now (label .entry)) (now (content .entry)) ++ replicate (length (now (out .entry)) - length (writtenText (now (label .entry)) (now (content .entry)))) 0 ⌝ }
 {
     let table = base64::alphabet_table();
-    let begin = engine::BEGIN;
-    let end = engine::END;
-    reader::clear(out);
+    let begin = BEGIN;
+    let end = END;
     let opened = put_boundary(out, 0, &begin, label);
     let lined = put_lines(&table, content, out, opened);
-    put_boundary(out, lined, &end, label);
+    let closed = put_boundary(out, lined, &end, label);
+    output::clear_from(out, closed);
 }
 
 // Writes the strict text with LF line ends of a label and data. After `Accepted` the output holds the text and then zeros, after
@@ -248,14 +293,14 @@ pub fn write(label: &[u8], content: &[u8], out: &mut [u8]) -> WriteAnswer
     match judge(label, content) {
         Judgement::Taken(size) => {
             if out.len() < size.0 {
-                reader::clear(out);
+                output::clear(out);
                 return WriteAnswer::OutputTooSmall(size);
             }
             put_text(label, content, out);
             WriteAnswer::Accepted(size)
         }
         Judgement::Refused(refusal) => {
-            reader::clear(out);
+            output::clear(out);
             WriteAnswer::Refused(refusal)
         }
     }

@@ -5,7 +5,7 @@ use Prim.Native.Nat.{ℕ, zero, suc, _+_, _-_, _≤_, _<_}
 use native.Mathlib.Omega.{arith}
 use native.Mathlib.Numerals.{add-one}
 use lib.ListN.{length, getD, set, take, drop, replicate, length-append, length-drop, take-append-drop}
-use lib.Seq.{length-take-le, take-suc, take-at, drop-at, drop-nil, drop-drop, set-split, sets-eq}
+use lib.Seq.{length-take-le, take-suc, take-at, drop-at, drop-drop, set-split, sets-eq}
 
 -- The output with the list from `at` on.
 abbrev pub placed : List ℕ → ℕ → List ℕ → List ℕ
@@ -78,23 +78,6 @@ by-places [] (suc n) h = absurd (omega arith)
 by-places (x ∷ l) zero h = absurd (omega arith)
 by-places (x ∷ l) (suc n) h = ap (λ (r : List ℕ). x ∷ r) (by-places l n (omega arith) ∙ places-behind x l 0 n)
 
-drop-replicate : (n m v : ℕ) → drop m (replicate n v) ≡ replicate (n - m) v
-drop-replicate zero m v =
-    let none : 0 ≡ zero - m = omega arith in
-    drop-nil m ∙ ap (λ (k : ℕ). replicate k v) none
-drop-replicate (suc n) zero v =
-    let all : suc n ≡ suc n - 0 = omega arith in
-    ap (λ (k : ℕ). replicate k v) all
-drop-replicate (suc n) (suc m) v =
-    let same : n - m ≡ suc n - suc m = omega arith in
-    drop-replicate n m v ∙ ap (λ (k : ℕ). replicate k v) same
-
--- Put into zeros from the start, it has zeros behind it.
-pub placed-zeros : (room : ℕ) (l : List ℕ) → placed (replicate room 0) 0 l ≡ l ++ replicate (room - length l) 0
-placed-zeros room l =
-    let all : 0 + length l ≡ length l = omega arith in
-    ap (λ (n : ℕ). l ++ drop n (replicate room 0)) all ∙ ap (λ (x : List ℕ). l ++ x) (drop-replicate room (length l) 0)
-
 -- ---- what a function has done that puts a list into the output
 
 -- The list stands in the output from `at` on, the rest is as it was, and the list ends at `end`.
@@ -114,3 +97,11 @@ put-more {old} {at = at} a b p q h = record {
   output = q .output ∙ (λ i. placed (p .output i) (p .ends i) b) ∙ placed-more old at a b h;
   ends = omega (arith, p .ends, q .ends, length-append a b);
 }
+
+-- Put in from the start, with zeros behind it.
+pub put-cleared : (l : List ℕ) {old new out : List ℕ} {end : ℕ} → Put old 0 l new end → length new ≡ length old → out ≡ take end new ++ replicate (length new - end) 0
+    → out ≡ l ++ replicate (length old - length l) 0
+put-cleared l {old} {new} {end = end} p same cleared =
+    let ends : end ≡ length l = omega (arith, p .ends) in
+    let front : take (length l) new ≡ l = ap (take (length l)) (p .output) ∙ take-at l (drop (0 + length l) old) (length l) refl in
+    cleared ∙ rw (ends, front, same)

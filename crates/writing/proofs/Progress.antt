@@ -1,9 +1,9 @@
 -- The lines of data as they are written, a group of four characters at a time. Assumes nothing.
 use mathlib.Core.Path.{_≡_, refl, sym, ap, _∙_}
-use mathlib.Core.Logic.{_≢_}
+use mathlib.Core.Logic.{_≢_, _⊎_, inl, inr}
 use mathlib.Core.Bool.{Bool, true, false, cond}
-use mathlib.Core.List.{List, [], _∷_, _++_, append-assoc}
-use Prim.Native.Nat.{ℕ, zero, suc, _+_, _-_, _%_, _≤_, _<_}
+use mathlib.Core.List.{List, [], _∷_, _++_, append-assoc, append-nil}
+use Prim.Native.Nat.{ℕ, zero, suc, _+_, _*_, _-_, _%_, _≤_, _<_}
 use native.Mathlib.Omega.{arith}
 use native.Mathlib.Numerals.{add-one}
 use lib.Dec.{eqb}
@@ -11,11 +11,12 @@ use lib.ListN.{length, take, drop, getD, replicate, length-append, length-drop, 
 use lib.Seq.{take-all, drop-cons}
 use borrow.Author.Tests.{eqb-false, eq-eqb, ne-eqb}
 use Rattle.base64.specs.Groups.{encode}
+use Rattle.base64.proofs.Groups.{length-encode}
 use Rattle.grammar.specs.Marks.{begin, end, hyphens}
 use Rattle.grammar.specs.Grammars.{lineChars}
 use Rattle.writing.specs.Text.{lineEnd, inLines, writtenText}
 use Rattle.writing.specs.declared.Cursor.{Cursor}
-use Rattle.writing.proofs.Placed.{placed, placed-zeros, Put, put-none, put-more}
+use Rattle.writing.proofs.Placed.{Put, put-none, put-more, put-cleared}
 
 -- A group's characters.
 abbrev pub groupChars : ℕ
@@ -188,18 +189,116 @@ text-length label content =
     ∙ length-append (boundaryLine begin label) (inLines lineChars (encode content) ++ boundaryLine end label)
     ∙ ap (λ (n : ℕ). length (boundaryLine begin label) + n) (length-append (inLines lineChars (encode content)) (boundaryLine end label))
 
--- From zeros the text, and zeros behind it.
-pub text-put : (label content : List ℕ) (room : ℕ) {o0 o1 o2 o3 : List ℕ} {e1 e2 e3 : ℕ} → length (writtenText label content) ≤ room
-    → o0 ≡ replicate room 0 → length o1 ≡ length o0
+-- The text from the start on, and zeros behind it.
+pub text-put : (label content : List ℕ) {o0 o1 o2 o3 o4 : List ℕ} {e1 e2 e3 : ℕ} → length (writtenText label content) ≤ length o0
+    → length o1 ≡ length o0 → length o3 ≡ length o0
     → Put o0 0 (boundaryLine begin label) o1 e1 → Put o1 e1 (inLines lineChars (encode content)) o2 e2 → Put o2 e2 (boundaryLine end label) o3 e3
-    → o3 ≡ writtenText label content ++ replicate (room - length (writtenText label content)) 0
-text-put label content room {o0} {o1} {o2} {o3} {e1} {e2} {e3} fits zeros l1 p1 p2 p3 =
+    → o4 ≡ take e3 o3 ++ replicate (length o3 - e3) 0
+    → o4 ≡ writtenText label content ++ replicate (length o0 - length (writtenText label content)) 0
+text-put label content {o0} {o1} {o2} {o3} {o4} {e1} {e2} {e3} fits l1 l3 p1 p2 p3 cleared =
     let lines : List ℕ = inLines lineChars (encode content) in
     let whole = text-length label content in
-    let size : length o0 ≡ room = ap length zeros ∙ length-replicate room 0 in
     let same = text-lines label content in
     let behind : Put o1 e1 (lines ++ boundaryLine end label) o3 e3 =
     put-more lines (boundaryLine end label) p2 p3 (omega (arith, p1 .ends, length-append lines (boundaryLine end label))) in
     let all : Put o0 0 (boundaryLine begin label ++ (lines ++ boundaryLine end label)) o3 e3 =
     put-more (boundaryLine begin label) (lines ++ boundaryLine end label) p1 behind (omega (arith, ap length same)) in
-    all .output ∙ (λ i. placed (zeros i) 0 (sym same i)) ∙ placed-zeros room (writtenText label content)
+    put-cleared (writtenText label content) (rw (← same) at all) l3 cleared
+
+-- ---- whole lines
+
+-- So many groups from i on were written at a place within a line: wherever lines of data are being written, they go on.
+pub record Wrote (content out out' : List ℕ) (at i n : ℕ) : Type 0 where
+  pub size : length out' ≡ length out
+  pub lined : (old : List ℕ) (from room : ℕ) → from + length (inLines lineChars (encode content)) ≤ length old → 4 * n ≤ room
+      → Lined content old from out record { at = at; room = room } i → Lined content old from out' record { at = at + 4 * n; room = room - 4 * n } (i + 3 * n)
+
+pub wrote-none : (content out : List ℕ) (at i : ℕ) → Wrote content out out at i 0
+wrote-none content out at i = record {
+  size = refl;
+  lined = λ old from room fits some w.
+      let place : at + 4 * 0 ≡ at = omega arith in
+      let read : i + 3 * 0 ≡ i = omega arith in
+      let left : room - 4 * 0 ≡ room = omega arith in
+      rw (place, read, left) w;
+}
+
+pub wrote-one : (content out out' group : List ℕ) (at i end : ℕ) → i + 2 < length content
+    → group ≡ encode (getD content i 0 ∷ getD content (i + 1) 0 ∷ getD content (i + 2) 0 ∷ []) → length out' ≡ length out → Put out at group out' end
+    → Wrote content out out' at i 1
+wrote-one content out out' group at i end h isGroup same put = record {
+  size = same;
+  lined = λ old from room fits some w.
+      let b = no-break room (λ (e : room ≡ 0). omega arith) in
+      let text : group ≡ groupText room group = ap (λ (l : List ℕ). l ++ group) (b .0) in
+      let left : room - 4 ≡ roomThen room - groupChars = ap (λ (r : ℕ). r - 4) (b .1) in
+      let four : length group ≡ 4 = ap length isGroup in
+      let there : end ≡ at + 4 = omega (arith, put .ends) in
+      let put' : Put out at (groupText room group) out' (at + 4) = rw (← text, ← there) put in
+      lined-next w fits (getD content i 0) (getD content (i + 1) 0) (getD content (i + 2) 0) (i + 3) (three-dropped content i h) group isGroup put' left;
+}
+
+pub wrote-then : {content out : List ℕ} {at i n : ℕ} {mid : List ℕ} → Wrote content out mid at i n → (at' i' : ℕ) → at' ≡ at + 4 * n → i' ≡ i + 3 * n
+    → {out' : List ℕ} {m : ℕ} → Wrote content mid out' at' i' m → (k : ℕ) → k ≡ n + m → Wrote content out out' at i k
+wrote-then {at = at} {i = i} {n = n} p at' i' ea ei {m = m} q k e = record {
+  size = q .size ∙ p .size;
+  lined = λ old from room fits some w.
+      let place : at' + 4 * m ≡ at + 4 * k = omega arith in
+      let read : i' + 3 * m ≡ i + 3 * k = omega arith in
+      let left : room - 4 * n - 4 * m ≡ room - 4 * k = omega arith in
+      let mid = rw (← ea, ← ei) at (p .lined old from room fits (omega arith) w) in
+      rw (← place, ← read, ← left) (q .lined old from (room - 4 * n) fits (omega arith) mid);
+}
+
+-- The line end of a full line, where more is to come.
+full-line : (c : ℕ) (l : List ℕ) → inLines 0 (c ∷ l) ≡ lineEnd ++ inLines lineChars (c ∷ l)
+unfolding inLines
+full-line c l = refl
+
+encode-some : (x y z : ℕ) (r : List ℕ) → inLines 0 (encode (x ∷ y ∷ z ∷ r)) ≡ lineEnd ++ inLines lineChars (encode (x ∷ y ∷ z ∷ r))
+encode-some x y z r = full-line _ _
+
+-- A line begins: behind a line end where the one before it is full.
+pub lined-break : {content old : List ℕ} {from : ℕ} {out : List ℕ} {at room i : ℕ} → Lined content old from out record { at = at; room = room } i
+    → from + length (inLines lineChars (encode content)) ≤ length old → i + 2 < length content → (room ≡ 0) ⊎ (room ≡ lineChars)
+    → {out' : List ℕ} {end : ℕ} → Put out at (lineBreak room) out' end → Lined content old from out' record { at = end; room = lineChars } i
+lined-break {content} {old} {from} {at = at} {i = i} w fits more (inl e) {out'} {end} put =
+    let d = three-dropped content i more in
+    let others : inLines lineChars (encode content) ≡ (w .done ++ lineEnd) ++ inLines lineChars (encode (drop i content)) =
+    w .others ∙ rw (e, d, encode-some (getD content i 0) (getD content (i + 1) 0) (getD content (i + 2) 0) (drop (i + 3) content)) (sym (append-assoc (w .done) lineEnd _)) in
+    let ended : Put _ at lineEnd out' end = rw (← full-break _ e .0) at put in
+    record {
+      done = w .done ++ lineEnd;
+      others = others;
+      written = put-more (w .done) lineEnd (w .written) ended (omega (arith, fits, ap length others ∙ length-append (w .done ++ lineEnd) _));
+      room = omega arith;
+    }
+lined-break {content} {old} {from} {at = at} {room = room} {i = i} w fits more (inr e) {out'} {end} put =
+    let same : Put _ at [] out' end = rw (← no-break room (λ (z : room ≡ 0). omega arith) .0) at put in
+    let others : inLines lineChars (encode content) ≡ (w .done ++ []) ++ inLines lineChars (encode (drop i content)) =
+    rw (append-nil) (rw e at (w .others)) in
+    record {
+      done = w .done ++ [];
+      others = others;
+      written = put-more (w .done) [] (w .written) same (omega (arith, fits, ap length others ∙ length-append (w .done ++ []) _));
+      room = omega arith;
+    }
+
+-- A line has room where its bytes are to come.
+lines-long : (room : ℕ) (l : List ℕ) → length l ≤ length (inLines room l)
+unfolding inLines
+lines-long room [] = omega arith
+lines-long zero (c ∷ l) = omega (arith, lines-long (lineChars - 1) l)
+lines-long (suc room) (c ∷ l) = omega (arith, lines-long room l)
+
+pub line-room : {content old : List ℕ} {from : ℕ} {out : List ℕ} {p : Cursor} {i : ℕ} → Lined content old from out p i
+    → from + length (inLines lineChars (encode content)) ≤ length old → i + 48 ≤ length content → p .at + lineChars ≤ length old
+line-room {content} {p = p} {i = i} w fits more =
+    omega (arith, lined-room w fits, lines-long (p .room) (encode (drop i content)), length-encode (drop i content), length-drop i content)
+
+pub break-short : (room : ℕ) → length (lineBreak room) ≤ 1
+break-short room = go (eqb room 0)
+  where
+    go : (b : Bool) → length (cond b lineEnd []) ≤ 1
+    go true = omega arith
+    go false = omega arith

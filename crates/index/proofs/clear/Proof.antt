@@ -2,7 +2,7 @@
 use Prim.Native.Nat.{_-_}
 use lib.ListN.{length}
 use borrow.Author.Needs.{needs}
-use Rattle.reading.proofs.Zeros.{Zeroed, zeroed-none, zeroed-next, zeroed-all}
+use Rattle.output.proofs.Zeros.{Zeroed, zeroed-none, zeroed-next, zeroed-all}
 use Rattle.index.proofs.clear.Statement.{statement}
 use Rattle.index.proofs.clear.Tie as tie
 
