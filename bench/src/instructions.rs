@@ -1,8 +1,9 @@
 //! Counts the instructions of one call of a side: this program runs itself under valgrind's callgrind, which collects
 //! inside of [`bench_measured`] only.
 
-use crate::cases::{self, Call, Case, Item, Side, Task};
+use crate::cases::{self, Call, Case, Item, Task, Trial, SIDES};
 use crate::grouped;
+use crate::texts::{self, Messages};
 use std::env;
 use std::fmt::Debug;
 use std::hint::black_box;
@@ -21,12 +22,37 @@ const MEASURED: &str = "bench_measured";
 /// What stands before callgrind's number.
 const COLLECTED: &str = "Collected :";
 
+/// A case for each length of the text.
+struct Family {
+    name: &'static str,
+    case: fn(usize) -> Case,
+}
+
+const FAMILIES: [Family; 4] = [
+    Family {
+        name: "read, one message",
+        case: |text| Case::strict(Call::Read, Messages::One(text)),
+    },
+    Family {
+        name: "index, one message",
+        case: |text| Case::strict(Call::Index, Messages::One(text)),
+    },
+    Family {
+        name: "index, bundle",
+        case: |text| Case::strict(Call::Index, Messages::Bundle(text)),
+    },
+    Family {
+        name: "write",
+        case: |text| Case::strict(Call::Write, Messages::Data(texts::most_data(text).min(DATA_LIMIT))),
+    },
+];
+
 pub fn print_table() -> ExitCode {
     print_head();
-    for call in Call::ALL {
-        for side in Side::ALL {
+    for family in FAMILIES {
+        for side in SIDES {
             for length in LENGTHS {
-                if let Err(why) = print_line(call, side, length) {
+                if let Err(why) = print_line(family.name, side, length) {
                     eprintln!("{why}");
                     return ExitCode::FAILURE;
                 }
@@ -51,8 +77,8 @@ text      Bytes of the text that is read, indexed or written: what fits in 64 Ki
     );
 }
 
-fn print_line(call: Call, side: Side, length: usize) -> Result<(), String> {
-    let run = counted(call, side, length).map_err(|error| match error.kind() {
+fn print_line(name: &str, side: &str, length: usize) -> Result<(), String> {
+    let run = counted(name, side, length).map_err(|error| match error.kind() {
         io::ErrorKind::NotFound => "valgrind is not installed: without it instructions are not counted".to_string(),
         _ => format!("valgrind could not be run: {error}"),
     })?;
@@ -64,8 +90,8 @@ fn print_line(call: Call, side: Side, length: usize) -> Result<(), String> {
     let instructions = collected(&errors).ok_or_else(|| errors.to_string())?;
     println!(
         "{:18} {:8} {:>10} {:>14} {:7.2}",
-        call.name(),
-        side.name(),
+        name,
+        side,
         grouped(text),
         grouped(instructions),
         instructions as f64 / text as f64
@@ -74,12 +100,12 @@ fn print_line(call: Call, side: Side, length: usize) -> Result<(), String> {
 }
 
 /// Runs this program under callgrind, for one call.
-fn counted(call: Call, side: Side, length: usize) -> io::Result<Output> {
+fn counted(name: &str, side: &str, length: usize) -> io::Result<Output> {
     Command::new("valgrind")
         .args(["--tool=callgrind", "--callgrind-out-file=/dev/null"])
         .arg(format!("--toggle-collect={MEASURED}"))
         .arg(env::current_exe()?)
-        .args([ONCE, side.name(), call.name(), &length.to_string()])
+        .args([ONCE, side, name, &length.to_string()])
         .output()
 }
 
@@ -91,30 +117,24 @@ fn collected(errors: &str) -> Option<usize> {
 }
 
 /// Calls a side once, as these words say, and prints how many bytes the text has.
-pub fn once(side: &str, call: &str, length: &str) -> Option<()> {
-    let side = Side::ALL.into_iter().find(|one| one.name() == side)?;
-    let call = Call::ALL.into_iter().find(|one| one.name() == call)?;
-    cases::with(call, length.parse().ok()?, &Once(side));
+pub fn once(side: &str, name: &str, length: &str) -> Option<()> {
+    let side = SIDES.into_iter().position(|one| one == side)?;
+    let family = FAMILIES.into_iter().find(|one| one.name == name)?;
+    cases::with(&(family.case)(length.parse().ok()?), &Once(side));
     Some(())
 }
 
-struct Once(Side);
+/// The place of a side in [`SIDES`].
+struct Once(usize);
 
 impl Task for Once {
-    fn run<T: Item, A: PartialEq + Debug>(
-        &self,
-        case: &Case,
-        library: impl Fn(&mut [T]) -> Option<A>,
-        ordinary: impl Fn(&mut [T]) -> Option<A>,
-    ) {
-        let mut lent = vec![T::from(0); case.exact];
-        let accepted = match self.0 {
-            Side::Library => bench_measured(&mut || library(&mut lent).is_some()),
-            Side::Ordinary => bench_measured(&mut || ordinary(&mut lent).is_some()),
-        };
+    fn run<T: Item, A: PartialEq + Debug>(&self, _: &Case, trial: &Trial<T, A>) {
+        let side = &trial.sides[self.0];
+        let mut lent = vec![T::from(0); trial.exact];
+        let accepted = bench_measured(&mut || (side.call)(&mut lent).is_some());
         black_box(&lent);
         assert!(accepted, "an input was refused");
-        println!("{}", case.text);
+        println!("{}", side.text);
     }
 }
 

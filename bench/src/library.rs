@@ -1,13 +1,12 @@
-//! The library's calls under the strict grammar, in the shape of those of [`crate::ordinary`]. A refusal is `None`.
+//! The library's calls in the shape of those of [`crate::yardstick`]. A refusal is `None`.
 
-use crate::ordinary::Message;
+use crate::yardstick::Message;
 use zullifern::raw::{self, Report};
+use zullifern::Grammar;
 
-const STRICT: u32 = 3;
-
-pub fn read(text: &[u8], out: &mut [u8]) -> Option<Message> {
+pub fn read(text: &[u8], grammar: Grammar, out: &mut [u8]) -> Option<Message> {
     let mut report = Report::default();
-    let number = raw::read(text, STRICT, out, &mut report);
+    let number = raw::read(text, grammar.number(), out, &mut report);
     let start = report.label_offset as usize;
     let label = start..start + report.label_length as usize;
     (number == 0).then_some(Message {
@@ -16,9 +15,9 @@ pub fn read(text: &[u8], out: &mut [u8]) -> Option<Message> {
     })
 }
 
-pub fn index(text: &[u8], table: &mut [u32]) -> Option<usize> {
+pub fn index(text: &[u8], grammar: Grammar, table: &mut [u32]) -> Option<usize> {
     let mut report = Report::default();
-    let number = raw::index(text, STRICT, table, &mut report);
+    let number = raw::index(text, grammar.number(), table, &mut report);
     (number == 0).then_some(report.size as usize)
 }
 

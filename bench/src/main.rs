@@ -1,38 +1,43 @@
-//! Compares the library with ordinary code on the same strict texts: their times, or the instructions that they take.
+//! Compares the library with two yardsticks in safe Rust on the same messages: their times, or the instructions that
+//! they take; and all of them with other readers of PEM.
 
 mod cases;
+mod helper;
 mod instructions;
 mod library;
-mod ordinary;
+mod peers;
+mod rows;
 mod texts;
 mod timed;
 mod timing;
+mod yardstick;
 
 use std::env;
 use std::process::ExitCode;
 
-/// The exit status where the words on the command line name no mode.
+/// The exit status where the words on the command line name no mode and no case.
 const MISUSED: u8 = 2;
 
 fn main() -> ExitCode {
     let words: Vec<String> = env::args().skip(1).collect();
     let words: Vec<&str> = words.iter().map(String::as_str).collect();
     match words[..] {
-        [] => {
-            timed::print_table();
+        ["instructions"] => instructions::print_table(),
+        ["peers"] => {
+            peers::print_table();
             ExitCode::SUCCESS
         }
-        ["instructions"] => instructions::print_table(),
-        [instructions::ONCE, side, call, length] => match instructions::once(side, call, length) {
+        [instructions::ONCE, side, name, length] => match instructions::once(side, name, length) {
             Some(()) => ExitCode::SUCCESS,
             None => misused(),
         },
+        _ if timed::print_table(&words) => ExitCode::SUCCESS,
         _ => misused(),
     }
 }
 
 fn misused() -> ExitCode {
-    eprintln!("usage: bench [instructions]");
+    eprintln!("usage: bench [words of a case's name] | bench instructions | bench peers");
     ExitCode::from(MISUSED)
 }
 

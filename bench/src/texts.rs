@@ -1,4 +1,4 @@
-//! The inputs: strict texts of made-up data, written plainly and apart from both sides that are compared.
+//! The inputs: texts of made-up data, written plainly and apart from both sides that are compared.
 
 pub const LABEL: &[u8] = b"CERTIFICATE";
 
@@ -7,16 +7,162 @@ pub const SHORT_TEXT: usize = 2 << 10;
 pub const LONG_TEXT: usize = 64 << 10;
 pub const HUGE_TEXT: usize = 10 << 20;
 
+/// The data of a tiny message, whose strict text has 99 bytes.
+pub const TINY_DATA: usize = 32;
+
+/// Where a message has its label.
+pub const LABEL_AT: usize = BEGIN.len();
+
+const BEGIN: &[u8] = b"-----BEGIN ";
+const END: &[u8] = b"-----END ";
+const HYPHENS: &[u8] = b"-----";
+
 const ALPHABET: &[u8; 64] = b"ABCDEFGHIJKLMNOPQRSTUVWXYZabcdefghijklmnopqrstuvwxyz0123456789+/";
 
-/// Characters of a full line with its line end, and the bytes they stand for; the same of a group.
+/// Characters of a full line of strict text with its LF, and the bytes they stand for; the same of a group.
 const LINE_WRITTEN: usize = 65;
 const LINE_DATA: usize = 48;
 const GROUP_WRITTEN: usize = 4;
 const GROUP_DATA: usize = 3;
 
-/// What both boundaries have beside their labels, with their line ends.
+/// What both boundaries have beside their labels, with their LF.
 const FRAME: usize = 32;
+
+/// How the lines of a text are laid out.
+#[derive(Clone, Copy, PartialEq, Eq)]
+pub struct Layout {
+    /// Characters of a full line of the body.
+    pub columns: usize,
+    /// A blank stands between so many characters of a line and the next.
+    pub gap: usize,
+    pub end: End,
+}
+
+/// What stands behind each line, those of the boundaries too.
+#[derive(Clone, Copy, PartialEq, Eq)]
+pub enum End {
+    Lf,
+    CrLf,
+    BlankLf,
+}
+
+/// More than a line has: all characters are on one line, or no blank is between them.
+pub const ENDLESS: usize = usize::MAX;
+
+/// As the strict grammar asks it and as the library writes it.
+pub const WRITTEN: Layout = Layout::columns(64);
+
+impl Layout {
+    pub const fn columns(columns: usize) -> Layout {
+        Layout {
+            columns,
+            gap: ENDLESS,
+            end: End::Lf,
+        }
+    }
+
+    pub fn name(self) -> String {
+        let columns = match self.columns {
+            ENDLESS => "one line".to_string(),
+            columns => columns.to_string(),
+        };
+        let end = match self.end {
+            End::Lf => "LF",
+            End::CrLf => "CRLF",
+            End::BlankLf => "blank LF",
+        };
+        match self.gap {
+            ENDLESS => format!("{columns} {end}"),
+            gap => format!("{columns} {end} gaps of {gap}"),
+        }
+    }
+}
+
+impl End {
+    fn bytes(self) -> &'static [u8] {
+        match self {
+            End::Lf => b"\n",
+            End::CrLf => b"\r\n",
+            End::BlankLf => b" \n",
+        }
+    }
+}
+
+/// The messages of a text.
+#[derive(Clone, Copy, PartialEq, Eq)]
+pub enum Messages {
+    /// One whose strict text is as long as fits in this length.
+    One(usize),
+    /// One with so many bytes of data.
+    Data(usize),
+    /// As many whose strict texts are about 2 KiB as fit in this length.
+    Bundle(usize),
+    /// So many with [`TINY_DATA`].
+    Tiny(usize),
+}
+
+impl Messages {
+    pub fn name(self) -> String {
+        match self {
+            Messages::One(text) => binary(text),
+            Messages::Data(data) => format!("{} of data", binary(data)),
+            Messages::Bundle(text) => format!("bundle of {}", binary(text)),
+            Messages::Tiny(count) => format!("{count} tiny"),
+        }
+    }
+
+    /// How many there are, and the bytes of data of each.
+    fn sizes(self) -> (usize, usize) {
+        match self {
+            Messages::One(text) => (1, most_data(text)),
+            Messages::Data(data) => (1, data),
+            Messages::Bundle(text) => {
+                let size = most_data(SHORT_TEXT);
+                (text / message(LABEL, &data(size)).len(), size)
+            }
+            Messages::Tiny(count) => (count, TINY_DATA),
+        }
+    }
+
+    /// The data of all of them, one behind the other.
+    pub fn data(self) -> Vec<u8> {
+        let (count, size) = self.sizes();
+        data(count * size)
+    }
+}
+
+/// A number of bytes in words, where it is a whole number of KiB or MiB.
+fn binary(bytes: usize) -> String {
+    match bytes {
+        _ if bytes.is_multiple_of(1 << 20) => format!("{} MiB", bytes >> 20),
+        _ if bytes.is_multiple_of(1 << 10) => format!("{} KiB", bytes >> 10),
+        _ => format!("{bytes} bytes"),
+    }
+}
+
+/// A text and its index table.
+pub struct Text {
+    pub bytes: Vec<u8>,
+    pub table: Vec<u32>,
+}
+
+impl Text {
+    pub fn of(messages: Messages, layout: Layout) -> Text {
+        let (count, size) = messages.sizes();
+        let mut text = Text {
+            bytes: Vec::new(),
+            table: vec![count as u32],
+        };
+        for data in messages.data().chunks(size) {
+            let start = text.bytes.len();
+            text.bytes.extend(laid_out(LABEL, data, layout));
+            let length = text.bytes.len() - start;
+            let entry = [start, length, start + LABEL_AT, LABEL.len(), data.len()];
+            text.table.extend(entry.map(|number| number as u32));
+        }
+        text
+    }
+}
 
 /// Bytes without a pattern, the same in each run.
 pub fn data(length: usize) -> Vec<u8> {
@@ -30,21 +176,29 @@ pub fn data(length: usize) -> Vec<u8> {
     (0..length).map(|_| next()).collect()
 }
 
-/// The most data whose text under [`LABEL`] is no longer than this: full lines, and what whole groups fit on one more.
+/// The most data whose strict text is no longer than this: full lines, and what whole groups fit on one more.
 pub fn most_data(text: usize) -> usize {
     let room = text.saturating_sub(FRAME + 2 * LABEL.len());
     let last = (room % LINE_WRITTEN).saturating_sub(1);
     room / LINE_WRITTEN * LINE_DATA + last / GROUP_WRITTEN * GROUP_DATA
 }
 
-/// The text of a label and data.
+/// The strict text of a label and data.
 pub fn message(label: &[u8], data: &[u8]) -> Vec<u8> {
-    let mut text = [b"-----BEGIN ", label, b"-----\n"].concat();
-    for line in data.chunks(LINE_DATA) {
-        text.extend(line.chunks(GROUP_DATA).flat_map(group));
-        text.push(b'\n');
+    laid_out(label, data, WRITTEN)
+}
+
+/// The text of a label and data in a layout.
+fn laid_out(label: &[u8], data: &[u8], layout: Layout) -> Vec<u8> {
+    let end = layout.end.bytes();
+    let characters: Vec<u8> = data.chunks(GROUP_DATA).flat_map(group).collect();
+    let mut text = [BEGIN, label, HYPHENS, end].concat();
+    for line in characters.chunks(layout.columns) {
+        let parts: Vec<&[u8]> = line.chunks(layout.gap).collect();
+        text.extend(parts.join(&b' '));
+        text.extend(end);
     }
-    text.extend([b"-----END ", label, b"-----\n"].concat());
+    text.extend([END, label, HYPHENS, end].concat());
     text
 }
 
@@ -57,24 +211,13 @@ fn group(bytes: &[u8]) -> [u8; GROUP_WRITTEN] {
     characters
 }
 
-/// One message whose text is as long as fits.
-pub fn one(text: usize) -> Vec<u8> {
-    message(LABEL, &data(most_data(text)))
-}
-
-/// As many short messages as fit in a text of this length, each with data of its own.
-pub fn bundle(text: usize) -> Vec<u8> {
-    let size = most_data(SHORT_TEXT);
-    let count = text / one(SHORT_TEXT).len();
-    data(count * size)
-        .chunks(size)
-        .flat_map(|data| message(LABEL, data))
-        .collect()
-}
-
 #[cfg(test)]
 mod tests {
     use super::*;
+
+    fn shown(data: &[u8], layout: Layout) -> String {
+        String::from_utf8(laid_out(b"A", data, layout)).expect("the text is ASCII")
+    }
 
     #[test]
     fn most_data_fits_and_more_does_not() {
@@ -85,5 +228,38 @@ mod tests {
             assert!(most == 0 || length(most) <= text, "{text}");
             assert!(length(most + 1) > text, "{text}");
         }
+    }
+
+    #[test]
+    fn layouts() {
+        let layout = Layout::columns(6);
+        assert_eq!(
+            shown(b"foobar", layout),
+            "-----BEGIN A-----\nZm9vYm\nFy\n-----END A-----\n"
+        );
+        let layout = Layout {
+            gap: 3,
+            end: End::CrLf,
+            ..layout
+        };
+        assert_eq!(
+            shown(b"foobar", layout),
+            "-----BEGIN A-----\r\nZm9 vYm\r\nFy\r\n-----END A-----\r\n"
+        );
+        let layout = Layout {
+            end: End::BlankLf,
+            ..Layout::columns(ENDLESS)
+        };
+        assert_eq!(
+            shown(b"fooba", layout),
+            "-----BEGIN A----- \nZm9vYmE= \n-----END A----- \n"
+        );
+    }
+
+    #[test]
+    fn tables() {
+        let text = Text::of(Messages::Tiny(2), WRITTEN);
+        assert_eq!(text.bytes.len(), 198);
+        assert_eq!(text.table, [2, 0, 99, 11, 11, 32, 99, 99, 110, 11, 32]);
     }
 }

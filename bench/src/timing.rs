@@ -1,4 +1,4 @@
-//! Times two sides in turn and gives medians and quartiles, in microseconds.
+//! Times several sides in turn, and gives medians and quartiles of what they took.
 
 use std::time::{Duration, Instant};
 
@@ -6,7 +6,7 @@ use std::time::{Duration, Instant};
 pub const MOST_ROUNDS: usize = 201;
 pub const LEAST_ROUNDS: usize = 11;
 pub const CASE: Duration = Duration::from_secs(2);
-/// A round takes about this long, or as long as a call of the slower side. Against this the clock's own time is small.
+/// A round takes about this long, or as long as a call of the slowest side. Against this the clock's own time is small.
 pub const ROUND: Duration = Duration::from_micros(200);
 /// How long each side runs before it is timed.
 const WARM_UP: Duration = Duration::from_millis(20);
@@ -19,7 +19,8 @@ pub struct Spread {
 }
 
 impl Spread {
-    fn of(mut values: Vec<f64>) -> Spread {
+    pub fn of(values: &[f64]) -> Spread {
+        let mut values = values.to_vec();
         values.sort_by(f64::total_cmp);
         let at = |quarters: usize| values[(values.len() - 1) * quarters / 4];
         Spread {
@@ -28,75 +29,60 @@ impl Spread {
             high: at(3),
         }
     }
+
+    /// Of what one side took over what the other took in the same round.
+    pub fn of_ratios(times: &[f64], others: &[f64]) -> Spread {
+        let ratios: Vec<f64> = times.iter().zip(others).map(|(time, other)| time / other).collect();
+        Spread::of(&ratios)
+    }
+
+    pub fn quartiles(&self, decimals: usize) -> String {
+        format!("({:.decimals$} to {:.decimals$})", self.low, self.high)
+    }
 }
 
-pub struct Comparison {
-    pub rounds: usize,
-    /// Microseconds for one call.
-    pub library: Spread,
-    pub ordinary: Spread,
-    /// The ordinary side's time over the library's in the same round, in per cent.
-    pub share: Spread,
-}
-
-/// Times both sides on the same lent buffer. The side that goes first changes with each round.
-pub fn compare<T>(lent: &mut [T], library: impl Fn(&mut [T]), ordinary: impl Fn(&mut [T])) -> Comparison {
-    let library_call = warm_up(lent, &library);
-    let ordinary_call = warm_up(lent, &ordinary);
-    // Rounds of one length on both sides: other work of the machine would interrupt the longer ones more often.
-    let length = micros(ROUND).max(library_call).max(ordinary_call);
-    let library_calls = (length / library_call).ceil() as u32;
-    let ordinary_calls = (length / ordinary_call).ceil() as u32;
-    let rounds = rounds_within(2.0 * length);
-    let mut times = (Vec::new(), Vec::new());
-    for number in 0..rounds {
-        if number % 2 == 0 {
-            times.0.push(round(lent, &library, library_calls));
-            times.1.push(round(lent, &ordinary, ordinary_calls));
-        } else {
-            times.1.push(round(lent, &ordinary, ordinary_calls));
-            times.0.push(round(lent, &library, library_calls));
+/// The times of each side for one call in each round. All are lent the same, and each goes first in its turn. A side
+/// makes so many calls, and answers the microseconds for one of them.
+pub fn interleaved<Lent>(lent: &mut Lent, sides: &[impl Fn(&mut Lent, u32) -> f64]) -> Vec<Vec<f64>> {
+    let single: Vec<f64> = sides.iter().map(|side| warm_up(lent, side)).collect();
+    // Rounds of one length on all sides: other work of the machine would interrupt the longer ones more often.
+    let length = single.iter().copied().fold(micros(ROUND), f64::max);
+    let calls: Vec<u32> = single.iter().map(|call| (length / call).ceil() as u32).collect();
+    let mut times = vec![Vec::new(); sides.len()];
+    for round in 0..rounds_within(sides.len() as f64 * length) {
+        for turn in 0..sides.len() {
+            let at = (round + turn) % sides.len();
+            times[at].push(sides[at](lent, calls[at]));
         }
     }
-    let share = times
-        .0
-        .iter()
-        .zip(&times.1)
-        .map(|(library, ordinary)| 100.0 * ordinary / library);
-    let share = Spread::of(share.collect());
-    Comparison {
-        rounds,
-        library: Spread::of(times.0),
-        ordinary: Spread::of(times.1),
-        share,
-    }
+    times
 }
 
-fn micros(time: Duration) -> f64 {
+pub fn micros(time: Duration) -> f64 {
     time.as_secs_f64() * 1e6
 }
 
-/// How many rounds a case has where a round of both sides together takes so long.
-fn rounds_within(both: f64) -> usize {
-    let fit = (micros(CASE) / both) as usize;
-    fit.clamp(LEAST_ROUNDS, MOST_ROUNDS) | 1
-}
-
 /// The time for one call, over so many calls.
-fn round<T>(lent: &mut [T], side: &impl Fn(&mut [T]), calls: u32) -> f64 {
+pub fn each(calls: u32, mut call: impl FnMut()) -> f64 {
     let start = Instant::now();
     for _ in 0..calls {
-        side(lent);
+        call();
     }
     micros(start.elapsed()) / f64::from(calls)
 }
 
+/// How many rounds a case has where a round of all sides together takes so long.
+fn rounds_within(all: f64) -> usize {
+    let fit = (micros(CASE) / all) as usize;
+    fit.clamp(LEAST_ROUNDS, MOST_ROUNDS) | 1
+}
+
 /// Warms a side up, and answers the time of its fastest call.
-fn warm_up<T>(lent: &mut [T], side: &impl Fn(&mut [T])) -> f64 {
+fn warm_up<Lent>(lent: &mut Lent, side: impl Fn(&mut Lent, u32) -> f64) -> f64 {
     let start = Instant::now();
     let mut fastest = f64::INFINITY;
     while start.elapsed() < WARM_UP {
-        fastest = fastest.min(round(lent, side, 1));
+        fastest = fastest.min(side(lent, 1));
     }
     // The clock cannot tell less than a nanosecond.
     fastest.max(1e-3)
@@ -113,5 +99,30 @@ mod tests {
         assert_eq!(rounds_within(case / 100.0), 101);
         assert_eq!(rounds_within(case / 51.0), 51);
         assert_eq!(rounds_within(case), LEAST_ROUNDS);
+    }
+
+    #[test]
+    fn quartiles_of_values_and_ratios() {
+        let spread = Spread::of(&[5.0, 1.0, 4.0, 2.0, 3.0]);
+        assert_eq!((spread.low, spread.median, spread.high), (2.0, 3.0, 4.0));
+        let ratios = Spread::of_ratios(&[4.0, 9.0, 2.0], &[2.0, 3.0, 2.0]);
+        assert_eq!(ratios.median, 2.0);
+        assert_eq!(ratios.quartiles(2), "(1.00 to 2.00)");
+    }
+
+    #[test]
+    fn sides_take_turns() {
+        // Calls that are said to take so long have the fewest rounds.
+        let side = |name: u8| {
+            move |order: &mut Vec<u8>, _: u32| {
+                order.push(name);
+                micros(CASE)
+            }
+        };
+        let mut order = Vec::new();
+        let times = interleaved(&mut order, &[side(b'a'), side(b'b'), side(b'c')]);
+        assert!(times.iter().all(|times| times.len() == LEAST_ROUNDS));
+        let rounds = &order[order.len() - 3 * LEAST_ROUNDS..];
+        assert_eq!(rounds, b"abcbcacababcbcacababcbcacababcbca");
     }
 }

@@ -1,9 +1,15 @@
-//! The baseline: strict RFC 7468 text as ordinary code reads, indexes and writes it.
+//! The yardsticks: strict RFC 7468 text as safe Rust reads, indexes and writes it.
 //!
-//! It takes and refuses what the library takes and refuses under the strict grammar, but says only roughly why and not
-//! where. It leaves in a lent buffer whatever it wrote before a refusal, and whatever stood behind a result.
+//! They take and refuse what the library takes and refuses under the strict grammar, but say only roughly why and not
+//! where. They leave in a lent buffer whatever they wrote before a refusal, and whatever stood behind a result. They
+//! have all in common but their codecs.
 
+mod ordinary;
+mod tuned;
+
+use ordinary::Ordinary;
 use std::ops::Range;
+use tuned::Tuned;
 
 /// The strict grammar's limits.
 const TEXT_LIMIT: usize = 16_777_216;
@@ -14,6 +20,10 @@ const DATA_LIMIT: usize = 8_388_608;
 const LINE: usize = 64;
 const LINE_DATA: usize = 48;
 const LINE_WRITTEN: usize = LINE + 1;
+
+/// Characters of a group, and the bytes they stand for.
+const GROUP: usize = 4;
+const GROUP_DATA: usize = 3;
 
 /// What a table has for each message.
 const ENTRY: usize = 5;
@@ -29,18 +39,45 @@ const LF: u8 = b'\n';
 
 const ALPHABET: &[u8; 64] = b"ABCDEFGHIJKLMNOPQRSTUVWXYZabcdefghijklmnopqrstuvwxyz0123456789+/";
 
-/// The value of a byte outside the alphabet. No value of the alphabet has its high bit, so an OR of many shows it.
-const BAD: u8 = 0x80;
-const VALUES: [u8; 256] = values();
+type Read = fn(&[u8], &mut [u8]) -> Result<Message, Refusal>;
+type Index = fn(&[u8], &mut [u32]) -> Result<usize, Refusal>;
+type Write = fn(&[u8], &[u8], &mut [u8]) -> Result<usize, Refusal>;
 
-const fn values() -> [u8; 256] {
-    let mut table = [BAD; 256];
-    let mut value = 0;
-    while value < ALPHABET.len() {
-        table[ALPHABET[value] as usize] = value as u8;
-        value += 1;
+/// One way to read, index and write strict text: [`read()`], [`index()`] and [`write()`] with a codec.
+pub struct Yardstick {
+    pub name: &'static str,
+    pub read: Read,
+    pub index: Index,
+    pub write: Write,
+}
+
+pub const YARDSTICKS: [Yardstick; 2] = [Yardstick::of::<Ordinary>("ordinary"), Yardstick::of::<Tuned>("tuned")];
+
+impl Yardstick {
+    const fn of<C: Codec>(name: &'static str) -> Yardstick {
+        Yardstick {
+            name,
+            read: read::<C>,
+            index: index::<C>,
+            write: write::<C>,
+        }
     }
-    table
+}
+
+/// What the yardsticks differ in: how full lines and groups are decoded, checked and encoded.
+trait Codec {
+    /// Decodes a full line, and answers whether it had characters of the alphabet only.
+    fn decode_line(line: &[u8; LINE], out: &mut [u8; LINE_DATA]) -> bool;
+
+    /// The bytes of a group, where it has characters of the alphabet only.
+    fn decode(group: &[u8; GROUP]) -> Option<[u8; GROUP_DATA]>;
+
+    /// Whether a full line has characters of the alphabet only.
+    fn is_clean(line: &[u8; LINE]) -> bool;
+
+    fn encode_line(line: &[u8; LINE_DATA], out: &mut [u8; LINE]);
+
+    fn encode(bytes: &[u8; GROUP_DATA], group: &mut [u8; GROUP]);
 }
 
 #[derive(Debug, Clone, Copy, PartialEq, Eq)]
@@ -65,29 +102,28 @@ pub struct Message {
 }
 
 /// Reads the one message that fills the text; its data go to the start of `out`.
-pub fn read(text: &[u8], out: &mut [u8]) -> Result<Message, Refusal> {
+fn read<C: Codec>(text: &[u8], out: &mut [u8]) -> Result<Message, Refusal> {
     if text.len() > TEXT_LIMIT {
         return Err(Refusal::TooLong);
     }
     let (label, body) = opening(text)?;
-    let lines = full_lines(&text[body..], |line, size| match room_for_line(out, size) {
-        Some(room) => decode_line(line, room),
-        None => false,
+    let mut places = out.as_chunks_mut().0.iter_mut();
+    let lines = full_lines(body, |line| {
+        places.next().is_some_and(|place| C::decode_line(line, place))
     })?;
-    let last = last_line(&text[body..], &lines)?;
+    let last = last_line::<C>(&lines)?;
     let size = lines.size + last.size;
     let room = out.get_mut(lines.size..size).ok_or(Refusal::Room)?;
     room.copy_from_slice(&last.data[..last.size]);
-    let closed = body + lines.length + last.length;
-    if closed + closing(&text[closed..], &text[label.clone()])? != text.len() {
+    if !closing(last.rest, label)?.is_empty() {
         return Err(Refusal::Malformed);
     }
-    Ok(Message { label, size })
+    Ok(message(label, size))
 }
 
 /// Indexes a bundle: the count of its messages, then start, length, label offset, label length and data size of each.
 /// Answers how many numbers of the table that are.
-pub fn index(text: &[u8], table: &mut [u32]) -> Result<usize, Refusal> {
+fn index<C: Codec>(text: &[u8], table: &mut [u32]) -> Result<usize, Refusal> {
     if text.len() > TEXT_LIMIT {
         return Err(Refusal::TooLong);
     }
@@ -95,7 +131,7 @@ pub fn index(text: &[u8], table: &mut [u32]) -> Result<usize, Refusal> {
     let mut at = 0;
     let mut messages = 0;
     while at < text.len() {
-        let (length, message) = skip(&text[at..])?;
+        let (length, message) = skip::<C>(&text[at..])?;
         let entry = entries
             .get_mut(messages * ENTRY..(messages + 1) * ENTRY)
             .ok_or(Refusal::Room)?;
@@ -110,7 +146,7 @@ pub fn index(text: &[u8], table: &mut [u32]) -> Result<usize, Refusal> {
 }
 
 /// Writes the strict text of a label and data to the start of `out`, and answers its length.
-pub fn write(label: &[u8], data: &[u8], out: &mut [u8]) -> Result<usize, Refusal> {
+fn write<C: Codec>(label: &[u8], data: &[u8], out: &mut [u8]) -> Result<usize, Refusal> {
     if label.len() > LABEL_LIMIT || data.len() > DATA_LIMIT {
         return Err(Refusal::TooLong);
     }
@@ -120,34 +156,34 @@ pub fn write(label: &[u8], data: &[u8], out: &mut [u8]) -> Result<usize, Refusal
     let size = written_size(label.len(), data.len());
     let out = out.get_mut(..size).ok_or(Refusal::Room)?;
     let out = put_boundary(out, BEGIN, label);
-    let out = put_body(out, data);
+    let out = put_body::<C>(out, data);
     put_boundary(out, END, label);
     Ok(size)
 }
 
 /// The length of a message at the start of a text, and what is to be told of it. Its body is checked and not decoded.
-fn skip(text: &[u8]) -> Result<(usize, Message), Refusal> {
+fn skip<C: Codec>(text: &[u8]) -> Result<(usize, Message), Refusal> {
     let (label, body) = opening(text)?;
-    let lines = full_lines(&text[body..], |line, _| is_clean(line))?;
-    let last = last_line(&text[body..], &lines)?;
-    let closed = body + lines.length + last.length;
-    let length = closed + closing(&text[closed..], &text[label.clone()])?;
-    let size = lines.size + last.size;
-    Ok((length, Message { label, size }))
+    let lines = full_lines(body, C::is_clean)?;
+    let last = last_line::<C>(&lines)?;
+    let rest = closing(last.rest, label)?;
+    Ok((text.len() - rest.len(), message(label, lines.size + last.size)))
 }
 
-/// The length of the line end that a text starts with. CR and LF are one.
-fn line_end(text: &[u8]) -> Option<usize> {
-    match text {
-        [CR, LF, ..] => Some(2),
-        [CR | LF, ..] => Some(1),
-        _ => None,
+/// What is told of a message at the start of a text: its label stands behind the opening's first words.
+fn message(label: &[u8], size: usize) -> Message {
+    Message {
+        label: BEGIN.len()..BEGIN.len() + label.len(),
+        size,
     }
 }
 
-/// How many bytes stand before the first line end, which has to come within so many bytes.
-fn line_length(text: &[u8], limit: usize) -> Option<usize> {
-    text.iter().take(limit + 1).position(|&byte| byte == CR || byte == LF)
+/// What is behind the line end that a text starts with. CR and LF are one.
+fn line_end(text: &[u8]) -> Result<&[u8], Refusal> {
+    match text {
+        [CR, LF, rest @ ..] | [CR | LF, rest @ ..] => Ok(rest),
+        _ => Err(Refusal::Malformed),
+    }
 }
 
 /// Whether these bytes may be a label: hyphens and spaces stand alone, and between two other characters.
@@ -163,144 +199,99 @@ fn is_label(label: &[u8]) -> bool {
     label.is_empty() || !separated
 }
 
-/// Where the label of the opening stands at the start of a text, and the offset behind the opening's line end.
-fn opening(text: &[u8]) -> Result<(Range<usize>, usize), Refusal> {
+/// The label of the opening at the start of a text, and what is behind the opening's line end.
+fn opening(text: &[u8]) -> Result<(&[u8], &[u8]), Refusal> {
     let rest = text.strip_prefix(BEGIN).ok_or(Refusal::Malformed)?;
     // A longer line has a longer label, or is none.
-    let line = line_length(rest, LABEL_LIMIT + HYPHENS.len()).ok_or(Refusal::Malformed)?;
-    let label = rest[..line].strip_suffix(HYPHENS).ok_or(Refusal::Malformed)?;
+    let near = &rest[..rest.len().min(LABEL_LIMIT + HYPHENS.len() + 1)];
+    let line = near.iter().position(|&byte| byte == CR || byte == LF);
+    let (line, behind) = rest.split_at(line.ok_or(Refusal::Malformed)?);
+    let label = line.strip_suffix(HYPHENS).ok_or(Refusal::Malformed)?;
     if !is_label(label) {
         return Err(Refusal::Malformed);
     }
-    let end = line_end(&rest[line..]).ok_or(Refusal::Malformed)?;
-    Ok((BEGIN.len()..BEGIN.len() + label.len(), BEGIN.len() + line + end))
+    Ok((label, line_end(behind)?))
 }
 
-/// The length of the closing at the start of a text, with its line end.
-fn closing(text: &[u8], label: &[u8]) -> Result<usize, Refusal> {
+/// What is behind the closing at the start of a text, and behind its line end.
+fn closing<'a>(text: &'a [u8], label: &[u8]) -> Result<&'a [u8], Refusal> {
     let rest = text.strip_prefix(END).ok_or(Refusal::Malformed)?;
     let rest = rest.strip_prefix(label).ok_or(Refusal::Labels)?;
     let rest = rest.strip_prefix(HYPHENS).ok_or(Refusal::Labels)?;
-    let end = line_end(rest).ok_or(Refusal::Malformed)?;
-    Ok(text.len() - rest.len() + end)
+    line_end(rest)
 }
 
-/// The full lines of a body: what they take of the text and how many bytes of data they are.
-struct Lines {
-    length: usize,
+/// The full lines of a body: what is behind them, and how many bytes of data they are.
+struct Lines<'a> {
+    rest: &'a [u8],
     size: usize,
 }
 
 /// Takes the lines of 64 characters at the start of a body, as long as `take` accepts them.
-fn full_lines(body: &[u8], mut take: impl FnMut(&[u8; LINE], usize) -> bool) -> Result<Lines, Refusal> {
-    let mut lines = Lines { length: 0, size: 0 };
-    while let Some((line, rest)) = body[lines.length..].split_first_chunk() {
-        if !take(line, lines.size) {
+fn full_lines(body: &[u8], mut take: impl FnMut(&[u8; LINE]) -> bool) -> Result<Lines<'_>, Refusal> {
+    let mut lines = Lines { rest: body, size: 0 };
+    while let Some((line, behind)) = lines.rest.split_first_chunk() {
+        if !take(line) {
             break;
         }
-        lines.length += LINE + line_end(rest).ok_or(Refusal::Malformed)?;
+        lines.rest = line_end(behind)?;
         lines.size += LINE_DATA;
     }
     Ok(lines)
 }
 
-/// The last line of a body where it is not a full one: what it takes of the text, and its data.
-struct Last {
-    length: usize,
+/// The last line of a body where it is not a full one: what is behind it, and its data.
+struct Last<'a> {
+    rest: &'a [u8],
     size: usize,
     data: [u8; LINE_DATA],
 }
 
 /// Takes what follows the full lines of a body up to the closing: nothing, or one line that is shorter or has pads.
-fn last_line(body: &[u8], lines: &Lines) -> Result<Last, Refusal> {
-    let mut last = Last {
-        length: 0,
-        size: 0,
-        data: [0; LINE_DATA],
-    };
-    let rest = &body[lines.length..];
-    if lines.length > 0 && rest.starts_with(HYPHENS) {
-        return Ok(last);
+fn last_line<'a, C: Codec>(lines: &Lines<'a>) -> Result<Last<'a>, Refusal> {
+    let (mut rest, mut size, mut data) = (lines.rest, 0, [0; LINE_DATA]);
+    for place in data.as_chunks_mut().0 {
+        let Some((group, behind)) = rest.split_first_chunk() else {
+            break;
+        };
+        let Some((bytes, count)) = decode_last::<C>(group) else {
+            break;
+        };
+        *place = bytes;
+        size += count;
+        rest = behind;
+        if count < GROUP_DATA {
+            break;
+        }
     }
-    let length = line_length(rest, LINE).ok_or(Refusal::Malformed)?;
-    last.size = decode_short(&rest[..length], &mut last.data).ok_or(Refusal::Malformed)?;
-    last.length = length + line_end(&rest[length..]).ok_or(Refusal::Malformed)?;
-    Ok(last)
-}
-
-/// The place of a full line's data in `out`.
-fn room_for_line(out: &mut [u8], at: usize) -> Option<&mut [u8; LINE_DATA]> {
-    out.get_mut(at..)?.first_chunk_mut()
-}
-
-/// Whether a full line has characters of the alphabet only.
-fn is_clean(line: &[u8; LINE]) -> bool {
-    let seen = line.iter().fold(0, |seen, &byte| seen | VALUES[byte as usize]);
-    seen & BAD == 0
-}
-
-/// Decodes a full line, and answers whether it had characters of the alphabet only.
-fn decode_line(line: &[u8; LINE], out: &mut [u8; LINE_DATA]) -> bool {
-    let mut seen = 0;
-    for (characters, six) in line.as_chunks::<8>().0.iter().zip(out.as_chunks_mut::<6>().0) {
-        let (bits, values) = join(characters);
-        let [_, _, bytes @ ..] = bits.to_be_bytes();
-        *six = bytes;
-        seen |= values;
+    match (size, lines.size) {
+        (0, 0) => Err(Refusal::Malformed),
+        (0, _) => Ok(Last { rest, size, data }),
+        _ => Ok(Last {
+            rest: line_end(rest)?,
+            size,
+            data,
+        }),
     }
-    seen & BAD == 0
-}
-
-/// The values of at most eight characters, joined in one number, and the OR of them.
-fn join(characters: &[u8]) -> (u64, u8) {
-    characters.iter().fold((0, 0), |(bits, seen), &character| {
-        let value = VALUES[character as usize];
-        (bits << 6 | u64::from(value), seen | value)
-    })
-}
-
-/// Decodes one to sixteen groups, of which the last may have pads, and answers how many bytes of data they are.
-fn decode_short(line: &[u8], out: &mut [u8; LINE_DATA]) -> Option<usize> {
-    let (groups, []) = line.as_chunks::<4>() else {
-        return None;
-    };
-    let (last, whole) = groups.split_last()?;
-    let places = out.as_chunks_mut::<3>().0;
-    let mut seen = 0;
-    for (group, three) in whole.iter().zip(&mut *places) {
-        let (bytes, values) = decode_group(group);
-        *three = bytes;
-        seen |= values;
-    }
-    let (bytes, size) = decode_last(last)?;
-    places[whole.len()] = bytes;
-    (seen & BAD == 0).then_some(whole.len() * 3 + size)
-}
-
-/// The three bytes of four characters, and the OR of their values.
-fn decode_group(group: &[u8; 4]) -> ([u8; 3], u8) {
-    let (bits, seen) = join(group);
-    let [.., a, b, c] = bits.to_be_bytes();
-    ([a, b, c], seen)
 }
 
 /// Decodes a group that may have pads, and answers how many of the three bytes count.
-fn decode_last(group: &[u8; 4]) -> Option<([u8; 3], usize)> {
+fn decode_last<C: Codec>(group: &[u8; GROUP]) -> Option<([u8; GROUP_DATA], usize)> {
     let (kept, size) = match *group {
         [a, b, PAD, PAD] => ([a, b, ZERO, ZERO], 1),
         [a, b, c, PAD] => ([a, b, c, ZERO], 2),
-        whole => (whole, 3),
+        whole => (whole, GROUP_DATA),
     };
-    let (bytes, seen) = decode_group(&kept);
+    let bytes = C::decode(&kept)?;
     // Spare bits would be in the bytes that do not count.
     let spare = bytes[size..].iter().any(|&byte| byte != 0);
-    (seen & BAD == 0 && !spare).then_some((bytes, size))
+    (!spare).then_some((bytes, size))
 }
 
 /// How long the text of so many bytes of label and data is.
 fn written_size(label: usize, data: usize) -> usize {
     let frame = BEGIN.len() + END.len() + 2 * (HYPHENS.len() + label + 1);
-    frame + data.div_ceil(3) * 4 + data.div_ceil(LINE_DATA)
+    frame + data.div_ceil(GROUP_DATA) * GROUP + data.div_ceil(LINE_DATA)
 }
 
 /// Puts a part at the start of `out`, and gives what is behind it.
@@ -317,41 +308,26 @@ fn put_boundary<'a>(out: &'a mut [u8], word: &[u8], label: &[u8]) -> &'a mut [u8
     put(out, &[LF])
 }
 
-fn put_body<'a>(out: &'a mut [u8], data: &[u8]) -> &'a mut [u8] {
+fn put_body<'a, C: Codec>(out: &'a mut [u8], data: &[u8]) -> &'a mut [u8] {
     let (lines, rest) = data.as_chunks::<LINE_DATA>();
     let (place, out) = out.split_at_mut(lines.len() * LINE_WRITTEN);
-    for (line, written) in lines.iter().zip(place.as_chunks_mut::<LINE_WRITTEN>().0) {
-        encode_line(line, written);
+    for (line, [characters @ .., end]) in lines.iter().zip(place.as_chunks_mut::<LINE_WRITTEN>().0) {
+        C::encode_line(line, characters);
+        *end = LF;
     }
     if rest.is_empty() {
         return out;
     }
-    put_last_line(out, rest)
-}
-
-fn encode_line(line: &[u8; LINE_DATA], out: &mut [u8; LINE_WRITTEN]) {
-    for (six, eight) in line.as_chunks::<6>().0.iter().zip(out.as_chunks_mut::<8>().0) {
-        encode(six, eight);
-    }
-    out[LINE] = LF;
-}
-
-/// Encodes three bytes to four characters, or six to eight, which go through one register.
-fn encode(bytes: &[u8], characters: &mut [u8]) {
-    let mut bits = bytes.iter().fold(0, |bits, &byte| bits << 8 | u64::from(byte));
-    for character in characters.iter_mut().rev() {
-        *character = ALPHABET[(bits & 63) as usize];
-        bits >>= 6;
-    }
+    put_last_line::<C>(out, rest)
 }
 
 /// Puts the line of 1 to 47 bytes, with its LF.
-fn put_last_line<'a>(out: &'a mut [u8], data: &[u8]) -> &'a mut [u8] {
-    let (place, out) = out.split_at_mut(data.len().div_ceil(3) * 4);
-    for (part, group) in data.chunks(3).zip(place.as_chunks_mut::<4>().0) {
-        let mut three = [0; 3];
-        three[..part.len()].copy_from_slice(part);
-        encode(&three, group);
+fn put_last_line<'a, C: Codec>(out: &'a mut [u8], data: &[u8]) -> &'a mut [u8] {
+    let (place, out) = out.split_at_mut(data.len().div_ceil(GROUP_DATA) * GROUP);
+    for (part, group) in data.chunks(GROUP_DATA).zip(place.as_chunks_mut().0) {
+        let mut bytes = [0; GROUP_DATA];
+        bytes[..part.len()].copy_from_slice(part);
+        C::encode(&bytes, group);
         // A part of n bytes has n + 1 characters.
         group[part.len() + 1..].fill(PAD);
     }
@@ -361,9 +337,10 @@ fn put_last_line<'a>(out: &'a mut [u8], data: &[u8]) -> &'a mut [u8] {
 #[cfg(test)]
 mod tests {
     use super::*;
-    use crate::{library, texts};
+    use crate::library;
+    use crate::texts::{self, Messages, Text, WRITTEN};
     use std::borrow::Cow;
-    use zullifern::{data_bound, table_bound};
+    use zullifern::{data_bound, table_bound, Grammar};
 
     /// Bytes that matter somewhere in a text: marks, white, spare bits, cases, and what no text has.
     const DAMAGES: &[u8] = b"-=\r\n \tAah0+/~!_\0\x7F\x80\xFF";
@@ -371,27 +348,31 @@ mod tests {
     /// How many messages of 2,048 bytes or a little less fit in 65,536.
     const BUNDLE_COUNT: usize = 32;
 
-    /// Both sides have to agree on a text, as a message and as a bundle. Answers whether it was read.
+    /// All sides have to agree on a text, as a message and as a bundle. Answers whether it was read.
     fn agree(text: &[u8]) -> bool {
         agree_on_index(text);
-        let mut ours = vec![0; data_bound(text.len())];
-        let mut theirs = ours.clone();
-        let message = read(text, &mut ours).ok();
-        assert_eq!(message, library::read(text, &mut theirs), "{}", shown(text));
-        let Some(message) = message else {
-            return false;
-        };
-        assert!(ours[..message.size] == theirs[..message.size], "{}", shown(text));
-        true
+        let room = data_bound(text.len());
+        let mut theirs = vec![0; room];
+        let message = library::read(text, Grammar::Strict, &mut theirs);
+        let size = message.as_ref().map_or(0, |message| message.size);
+        for Yardstick { name, read, .. } in YARDSTICKS {
+            let mut ours = vec![0; room];
+            assert_eq!(read(text, &mut ours).ok(), message, "{name}: {}", shown(text));
+            assert!(ours[..size] == theirs[..size], "{name}: {}", shown(text));
+        }
+        message.is_some()
     }
 
     fn agree_on_index(text: &[u8]) {
-        let mut ours = vec![0; table_bound(text.len())];
-        let mut theirs = ours.clone();
-        let size = index(text, &mut ours).ok();
-        assert_eq!(size, library::index(text, &mut theirs), "{}", shown(text));
-        let size = size.unwrap_or(0);
-        assert!(ours[..size] == theirs[..size], "{}", shown(text));
+        let room = table_bound(text.len());
+        let mut theirs = vec![0; room];
+        let answer = library::index(text, Grammar::Strict, &mut theirs);
+        let size = answer.unwrap_or(0);
+        for Yardstick { name, index, .. } in YARDSTICKS {
+            let mut ours = vec![0; room];
+            assert_eq!(index(text, &mut ours).ok(), answer, "{name}: {}", shown(text));
+            assert!(ours[..size] == theirs[..size], "{name}: {}", shown(text));
+        }
     }
 
     /// The start of a text, for a failure's message.
@@ -400,18 +381,16 @@ mod tests {
     }
 
     fn agree_on_writing(label: &[u8], data: &[u8], room: usize) -> Option<Vec<u8>> {
-        let mut ours = vec![0; room];
-        let mut theirs = ours.clone();
-        let size = write(label, data, &mut ours).ok();
-        assert_eq!(
-            size,
-            library::write(label, data, &mut theirs),
-            "{label:?}, {} bytes",
-            data.len()
-        );
-        let size = size?;
-        assert!(ours[..size] == theirs[..size]);
-        Some(ours[..size].to_vec())
+        let mut theirs = vec![0; room];
+        let answer = library::write(label, data, &mut theirs);
+        let size = answer.unwrap_or(0);
+        for Yardstick { name, write, .. } in YARDSTICKS {
+            let mut ours = vec![0; room];
+            let why = format!("{name}: {label:?}, {} bytes", data.len());
+            assert_eq!(write(label, data, &mut ours).ok(), answer, "{why}");
+            assert!(ours[..size] == theirs[..size], "{why}");
+        }
+        answer.map(|size| theirs[..size].to_vec())
     }
 
     /// A full line, a last line of a whole group and one with a pad, and a label with both separators.
@@ -427,16 +406,21 @@ mod tests {
 
     #[test]
     fn benchmark_texts() {
-        let bundle = texts::bundle(texts::LONG_TEXT);
+        let bundle = Text::of(Messages::Bundle(texts::LONG_TEXT), WRITTEN).bytes;
         assert!(!agree(&bundle));
         let size = 1 + BUNDLE_COUNT * ENTRY;
-        assert_eq!(index(&bundle, &mut vec![0; size]), Ok(size));
+        for Yardstick { name, index, .. } in YARDSTICKS {
+            assert_eq!(index(&bundle, &mut vec![0; size]), Ok(size), "{name}");
+        }
         for length in [texts::LONG_TEXT, texts::SHORT_TEXT] {
-            let text = texts::one(length);
+            let text = Text::of(Messages::One(length), WRITTEN).bytes;
             assert!(text.len() <= length && agree(&text));
-            let mut out = vec![0; texts::most_data(length)];
-            assert_eq!(read(&text, &mut out).map(|message| message.size), Ok(out.len()));
-            assert!(out == texts::data(out.len()));
+            let data = texts::data(texts::most_data(length));
+            for Yardstick { name, read, .. } in YARDSTICKS {
+                let mut out = vec![0; data.len()];
+                let size = read(&text, &mut out).map(|message| message.size);
+                assert!(size == Ok(data.len()) && out == data, "{name}");
+            }
         }
     }
 
@@ -447,15 +431,15 @@ mod tests {
             let data = &b"foobar"[..at + 1];
             let text = format!("-----BEGIN A-----\n{vector}\n-----END A-----\n");
             assert!(agree(text.as_bytes()));
-            let mut out = [0; 6];
-            assert_eq!(
-                read(text.as_bytes(), &mut out),
-                Ok(Message {
-                    label: 11..12,
-                    size: data.len()
-                })
-            );
-            assert_eq!(out[..data.len()], *data);
+            let message = Message {
+                label: 11..12,
+                size: data.len(),
+            };
+            for Yardstick { name, read, .. } in YARDSTICKS {
+                let mut out = [0; 6];
+                assert_eq!(read(text.as_bytes(), &mut out).as_ref(), Ok(&message), "{name}");
+                assert_eq!(out[..data.len()], *data, "{name}");
+            }
             assert_eq!(agree_on_writing(b"A", data, 64).as_deref(), Some(text.as_bytes()));
         }
     }
@@ -563,18 +547,20 @@ mod tests {
         for length in [1, 2, 3, 46, 47, 48, 49, 50, 96] {
             let data = texts::data(length);
             let text = texts::message(b"A", &data);
-            assert_eq!(
-                read(&text, &mut vec![0; length]).map(|message| message.size),
-                Ok(length)
-            );
-            assert_eq!(read(&text, &mut vec![0; length - 1]), Err(Refusal::Room));
-            assert_eq!(library::read(&text, &mut vec![0; length - 1]), None);
+            assert_eq!(library::read(&text, Grammar::Strict, &mut vec![0; length - 1]), None);
             assert!(agree_on_writing(b"A", &data, text.len()).is_some());
             assert_eq!(agree_on_writing(b"A", &data, text.len() - 1), None);
-            assert_eq!(index(&text, &mut [0; 1 + ENTRY]), Ok(1 + ENTRY));
-            assert_eq!(index(&text, &mut [0; ENTRY]), Err(Refusal::Room));
+            for Yardstick { name, read, index, .. } in YARDSTICKS {
+                let size = |room| read(&text, &mut vec![0; room]).map(|message| message.size);
+                assert_eq!(size(length), Ok(length), "{name}");
+                assert_eq!(size(length - 1), Err(Refusal::Room), "{name}");
+                assert_eq!(index(&text, &mut [0; 1 + ENTRY]), Ok(1 + ENTRY), "{name}");
+                assert_eq!(index(&text, &mut [0; ENTRY]), Err(Refusal::Room), "{name}");
+            }
         }
-        assert_eq!(index(b"", &mut [7]), Ok(1));
-        assert_eq!(index(b"", &mut []), Err(Refusal::Room));
+        for Yardstick { name, index, .. } in YARDSTICKS {
+            assert_eq!(index(b"", &mut [7]), Ok(1), "{name}");
+            assert_eq!(index(b"", &mut []), Err(Refusal::Room), "{name}");
+        }
     }
 }
