@@ -1,9 +1,11 @@
 /*
- * Makes one call of the library, and prints its number, its size and the bytes of stack that it touched.
+ * Makes one call of the library, and prints its number, place and size, the label's offset and length, how many bytes it was
+ * lent, and the bytes of stack that it touched.
  *
- *     call CALL GRAMMAR LENGTH plain|painted < INPUT
+ *     call CALL GRAMMAR LABEL LENGTH ROOM plain|painted < INPUT
  *
- * The input has LENGTH bytes: a text, or data to write. What is lent has room for the result of any input of that length.
+ * The input is a label of LABEL bytes, which only `write` has a use for, and LENGTH bytes behind it: a text, or data to write.
+ * ROOM is how many bytes or numbers are lent, or `bound` for the room that the result of any input of that length fits.
  * `plain` makes the call on the program's own stack and prints 0 for it; `painted` makes it on another stack, which was filled
  * with one value, and counts from the lowest byte that has another value afterwards.
  */
@@ -22,8 +24,6 @@ static const size_t STACK = (size_t)1 << 18;
 static const size_t GUARD = (size_t)1 << 28;
 static const int PAINT = 0xA5;
 
-static const uint8_t LABEL[] = {'A'};
-
 struct job;
 typedef uint32_t made_call(struct job *);
 
@@ -31,10 +31,13 @@ typedef uint32_t made_call(struct job *);
 struct job {
     made_call *make;
     uint32_t grammar;
+    uint8_t *label;
+    size_t label_length;
     uint8_t *input;
     size_t length;
     void *lent;
     size_t room;
+    size_t item;
     struct zullifern_report report;
     uint32_t number;
 };
@@ -56,7 +59,7 @@ static uint32_t make_index(struct job *job) {
 }
 
 static uint32_t make_write(struct job *job) {
-    return zullifern_write(LABEL, sizeof LABEL, job->input, job->length, job->lent, job->room, &job->report);
+    return zullifern_write(job->label, job->label_length, job->input, job->length, job->lent, job->room, &job->report);
 }
 
 static void stop(const char *why) {
@@ -71,9 +74,9 @@ static void *lend(size_t size) {
     return lent;
 }
 
-/* Chooses a call by its name, and what it is lent. */
+/* Chooses a call by its name, and the room that its result always fits. */
 static void choose(struct job *job, const char *name) {
-    size_t item = 1;
+    job->item = 1;
     if (strcmp(name, "read") == 0) {
         job->make = make_read;
         job->room = ZULLIFERN_READ_BOUND(job->length);
@@ -82,14 +85,21 @@ static void choose(struct job *job, const char *name) {
     } else if (strcmp(name, "index") == 0) {
         job->make = make_index;
         job->room = ZULLIFERN_TABLE_BOUND(job->length);
-        item = sizeof(uint32_t);
+        job->item = sizeof(uint32_t);
     } else if (strcmp(name, "write") == 0) {
         job->make = make_write;
-        job->room = ZULLIFERN_WRITTEN_SIZE(sizeof LABEL, job->length);
+        job->room = ZULLIFERN_WRITTEN_SIZE(job->label_length, job->length);
     } else {
         stop("there is no such call");
     }
-    job->lent = lend(job->room * item + 1);
+}
+
+/* So many bytes of the input. */
+static uint8_t *taken(size_t length) {
+    uint8_t *bytes = lend(length + 1);
+    if (fread(bytes, 1, length, stdin) != length)
+        stop("the input is shorter than it is said to be");
+    return bytes;
 }
 
 /* What a painted call is made with. */
@@ -133,19 +143,32 @@ static size_t painted(struct job *job) {
     return depth(job) - empty;
 }
 
+static void print(const struct job *job, size_t touched) {
+    const struct zullifern_report *report = &job->report;
+    const uint64_t told[] = {report->place, report->size, report->label_offset, report->label_length};
+    printf("%u", job->number);
+    for (size_t i = 0; i < sizeof told / sizeof told[0]; i++)
+        printf(" %llu", (unsigned long long)told[i]);
+    printf(" %zu %zu\n", job->room * job->item, touched);
+}
+
 int main(int count, char **words) {
-    if (count != 5)
-        stop("CALL GRAMMAR LENGTH plain|painted");
+    if (count != 7)
+        stop("CALL GRAMMAR LABEL LENGTH ROOM plain|painted");
     size_t touched = 0;
-    struct job job = {.grammar = (uint32_t)atoi(words[2]), .length = strtoull(words[3], NULL, 10)};
-    job.input = lend(job.length + 1);
-    if (fread(job.input, 1, job.length, stdin) != job.length)
-        stop("the input is shorter than it is said to be");
+    struct job job = {.grammar = (uint32_t)atoi(words[2])};
+    job.label_length = strtoull(words[3], NULL, 10);
+    job.length = strtoull(words[4], NULL, 10);
+    job.label = taken(job.label_length);
+    job.input = taken(job.length);
     choose(&job, words[1]);
-    if (strcmp(words[4], "painted") == 0)
+    if (strcmp(words[5], "bound") != 0)
+        job.room = strtoull(words[5], NULL, 10);
+    job.lent = lend(job.room * job.item + 1);
+    if (strcmp(words[6], "painted") == 0)
         touched = painted(&job);
     else
         job.number = job.make(&job);
-    printf("%u %llu %zu\n", job.number, (unsigned long long)job.report.size, touched);
+    print(&job, touched);
     return 0;
 }

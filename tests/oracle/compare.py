@@ -1,22 +1,27 @@
 """Compares the linked archive with the oracle on random texts and bundles: valid, damaged by up to three edits, and soups
-of marks; the write call on random labels, valid and damaged, and data of many lengths. A few texts have white behind them up
-to the limit or one byte over it, and a few data are as long as may be written or one byte longer.
+of marks; some of them in lines long enough to leap, damaged where a leap begins or ends; the write call on random labels,
+valid and damaged, and data of many lengths. A few texts have white behind them up to the limit or one byte over it, and a few
+data are as long as may be written or one byte longer. With `leaps` it goes through all that `leaps.py` makes, which takes
+minutes.
 
     rt staticlib zullifern
     python3 compare.py target/staticlib/libzullifern.a SEED COUNT
+    python3 compare.py target/staticlib/libzullifern.a leaps
 
 The lent output, table and report are filled with old values first; output and table are guarded at both ends. What was
 written is read back.
 """
 import collections
+import itertools
 import random
 import sys
 
+import leaps
 import oracle
 from archive import called, indexed, loaded, written
 
-# How often data are long, and how often a text or data are at a limit.
-LONG, LIMIT = 0.005, 0.0005
+# How often a message is in lines long enough to leap, how often data are long, and how often a text or data are at a limit.
+LINED, LONG, LIMIT = 0.25, 0.005, 0.0005
 # How much of each part a disagreement shows.
 SHOWN = 5000
 WHITE = [b" ", b"\t", b"\r", b"\n", b"\x0b", b"\x0c"]
@@ -70,6 +75,18 @@ class Texts:
         after = [lambda: self.some(WHITE, [0, 0, 1, 2]), lambda: self.some([b" ", b"\t"], [0, 1]) + self.random.choice([b"", self.line_end()]), self.line_end][grammar - 1]()
         return before + b"-----BEGIN " + opened + b"-----" + body + b"-----END " + closed + b"-----" + after
 
+    def lined(self):
+        """A message in lines of one width or of many, after no edit to three where a leap may begin or end."""
+        width = self.random.choice([64, 64, *leaps.WIDTHS])
+        widths = [self.random.choice([width, width, self.random.randint(1, 140)]) for _ in range(self.random.choice([0, 1, 2, 3, 5]))]
+        chars = leaps.characters(self.random, widths, self.random.randint(1, 16), self.random.choice([0, 1, 2]))
+        blanks = self.some([b" ", b"\t"], [0, 0, 0, 1, 2, 17])
+        text, starts = leaps.lined(self.label(), chars, widths, self.random.choice(leaps.ENDS), blanks)
+        for _ in range(self.random.choice([0, 1, 1, 2, 3])):
+            at = self.random.choice(leaps.places(text, starts))
+            text = self.random.choice(list(leaps.edited(text, at)))
+        return text
+
     def damaged(self, text):
         text = bytearray(text)
         for _ in range(self.random.choice([0, 1, 1, 2, 3])):
@@ -94,6 +111,8 @@ class Texts:
     def text(self):
         if self.random.random() < LIMIT:
             return self.at_the_limit()
+        if self.random.random() < LINED:
+            return self.lined()
         if self.random.random() < 0.85:
             return self.damaged(self.message(self.random.choice([1, 2, 3])))
         return self.some(SOUP, range(15))
@@ -101,7 +120,7 @@ class Texts:
     def mostly_sound(self, grammar):
         """A message of the grammar; one that is refused is thrown away up to nine times."""
         for _ in range(self.random.choice([1, 10, 10, 10, 10])):
-            text = self.message(grammar)
+            text = self.lined() if self.random.random() < LINED else self.message(grammar)
             if oracle.read(text, grammar, len(text)).number == 0:
                 break
         return text
@@ -124,15 +143,27 @@ class Texts:
         return label if self.random.random() < 0.7 else self.damaged(label)
 
     def data(self):
-        length = self.random.choice([self.random.randint(0, 8), self.random.randint(0, 200)])
+        full = 48 * self.random.randint(1, 40)
+        length = self.random.choice([self.random.randint(0, 8), self.random.randint(0, 200), full + self.random.choice([-1, 0, 1])])
         if self.random.random() < LONG:
             length = self.random.choice([32767, 32768, 32769, self.random.randint(0, 33000)])
         if self.random.random() < LIMIT:
             length = oracle.DATA_LIMIT + self.random.choice([0, 1])
         return self.random.randbytes(length)
 
+    def read_room(self, text):
+        """Some room, or about as much as the data need."""
+        if self.random.random() < 0.5:
+            return self.random.choice([3, 10, 60, 200, *leaps.ROOMS])
+        return max(0, data_size(text) + self.random.choice([-1, 0, 0, 1]))
+
     def write_room(self, needed):
         return max(0, needed + self.random.choice([0, 0, 0, -1, 1, 7, 100, -needed, -self.random.randint(0, 40)]))
+
+
+def data_size(text):
+    """The size of a text's data, if it is accepted: then it is the same under each grammar that accepts it."""
+    return oracle.read(text, 1, 0).size
 
 
 def agree(got, want, *given):
@@ -168,13 +199,12 @@ def compare_write(library, label, data, room):
     return a.number
 
 
-def main():
-    library, seed, count = loaded(sys.argv[1]), int(sys.argv[2]), int(sys.argv[3])
+def compare_random(library, seed, count):
     texts, pairs = Texts(seed), Texts(seed)
     read, index, write = collections.Counter(), collections.Counter(), collections.Counter()
     for _ in range(count):
         text, bundle = texts.text(), texts.bundle()
-        read[compare_read(library, text, texts.grammar(), texts.random.choice([0, 1, 2, 3, 10, 60, 200]))] += 1
+        read[compare_read(library, text, texts.grammar(), texts.read_room(text))] += 1
         index[compare_index(library, text, texts.grammar(), texts.random.choice([0, 1, 5, 6, 7]))] += 1
         index[compare_index(library, bundle, texts.grammar(), texts.random.choice([0, 1, 6, 10, 11, 16, 21, 30]))] += 1
         label, data = pairs.any_label(), pairs.data()
@@ -182,6 +212,31 @@ def main():
     print(count, "texts read, by number:", dict(sorted(read.items())))
     print(2 * count, "texts indexed, by number:", dict(sorted(index.items())))
     print(count, "labels and data written, by number:", dict(sorted(write.items())))
+
+
+def compare_leaps(library):
+    """Each text of `leaps.py` under each grammar, with about as much room as its data need and with another room."""
+    read = {grammar: collections.Counter() for grammar in (1, 2, 3)}
+    index = {grammar: collections.Counter() for grammar in (1, 2, 3)}
+    rooms, around = itertools.cycle(leaps.ROOMS), itertools.cycle((-1, 0, 0, 1, 0))
+    for text in leaps.damaged(random.Random(7468)):
+        size = data_size(text)
+        for grammar in (1, 2, 3):
+            for room in (next(rooms), max(0, size + next(around))):
+                read[grammar][compare_read(library, text, grammar, room)] += 1
+            index[grammar][compare_index(library, text, grammar, 6)] += 1
+    for grammar in (1, 2, 3):
+        print("grammar", grammar, "read, by number:", dict(sorted(read[grammar].items())), "indexed:", dict(sorted(index[grammar].items())))
+        assert {0, 3, 4, 5, 10} <= set(read[grammar]) and {0, 3, 4, 5} <= set(index[grammar])
+
+
+def main():
+    library, arguments = loaded(sys.argv[1]), sys.argv[2:]
+    if arguments == ["leaps"]:
+        compare_leaps(library)
+    else:
+        seed, count = map(int, arguments)
+        compare_random(library, seed, count)
 
 
 if __name__ == "__main__":

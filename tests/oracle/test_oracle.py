@@ -4,6 +4,7 @@ import itertools
 import random
 from functools import lru_cache
 
+import leaps
 import oracle
 from oracle import index, read, write
 
@@ -286,7 +287,7 @@ def check_bundle(t, search):
         if not ok:
             assert a.number in (3, 4, 5) and a.place == k or a.number in (6, 7, 8, 9), (t, g, a)
         # One message is a bundle with the reader's label and size; what one message refuses by 6 to 9 a bundle does too.
-        b = read(t, g, 99)
+        b = read(t, g, len(t))
         if b.number == 0:
             assert a.out[:6] == [1, 0, len(t), b.label_at, b.label_len, b.size], (t, g)
         elif b.number > 5:
@@ -317,6 +318,11 @@ for t in BASES:
         check(t[:i])
 for _ in range(6000):
     check(damaged(random.choice(BASES), random.randint(1, 3)))
+
+# Texts long enough to leap: one in 301 of them, and there are 64 edits at a place, so that each edit comes about.
+for t in itertools.islice(leaps.damaged(random.Random(7468)), 0, None, 301):
+    check(t)
+    check_bundle(t, False)
 
 BETWEEN = [b"", b"", b"", b" ", b"\t", b"\n", b"\r", b"\r\n", b"\n\n", b"\v", b"x", b"-"]
 for row in BUNDLES:

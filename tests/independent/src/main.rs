@@ -1,11 +1,12 @@
 //! Compares the library with a second implementation of the requirements paper.
 //!
-//! `cargo run --release -p independent` runs the fixed cases and random ones of a fixed seed; with `-- SEED COUNT` it runs
-//! COUNT random rounds of that seed. It ends with status 1 on the first disagreement, or if the random rounds of the default
-//! run never came upon some number that the paper lists.
+//! `cargo run --release -p independent` runs the fixed cases, those at the edges of leaps, and random ones of a fixed seed;
+//! with `-- SEED COUNT` it runs COUNT random rounds of that seed. It ends with status 1 on the first disagreement, or if the
+//! cases at leaps, or the random rounds of the default run, never came upon some number that the paper lists for them.
 
 mod bits;
 mod fixed;
+mod leaps;
 mod lent;
 mod limits;
 mod paper;
@@ -19,13 +20,16 @@ mod tally;
 mod texts;
 mod trial;
 
+use paper::number::{LONG_TEXT, UNKNOWN_GRAMMAR, WRITER_LONG_DATA};
 use random::Random;
 use std::time::Instant;
 use tally::{Tally, CALLS};
 use trial::{fail, Trial};
 
 const SEED: u64 = 7468;
-const COUNT: u64 = 40_000;
+const COUNT: u64 = 60_000;
+/// What the cases at leaps do not try: grammar numbers, and the limits of texts and data.
+const NOT_AT_LEAPS: [u32; 3] = [UNKNOWN_GRAMMAR, LONG_TEXT, WRITER_LONG_DATA];
 
 fn main() {
     let arguments: Vec<String> = std::env::args().skip(1).collect();
@@ -38,20 +42,29 @@ fn main() {
     let mut trial = Trial::new();
     fixed::run(&mut trial, &mut Random::new(SEED));
     limits::run(&mut trial, &mut Random::new(SEED));
-    let mut tally = std::mem::take(&mut trial.tally);
-    let fixed = tally.total();
+    let fixed = std::mem::take(&mut trial.tally);
+    let families = leaps::run(&mut trial, &mut Random::new(seed));
+    let at_leaps = std::mem::take(&mut trial.tally);
     rounds::run(&mut trial, &mut Random::new(seed), count);
-    tally.add(&trial.tally);
-    for call in CALLS {
-        println!("{}", tally.line(call));
+    let random = trial.tally;
+    println!("at leaps: {}", families.join(", "));
+    let rounds = format!("seed {seed}, {count} rounds");
+    print_counts(&[&fixed, &at_leaps, &random], &rounds, started);
+    require_all_numbers("at leaps", &at_leaps, &NOT_AT_LEAPS);
+    if count >= COUNT {
+        require_all_numbers("in the random rounds", &random, &[]);
     }
-    let (all, time) = (tally.total(), started.elapsed().as_secs_f64());
-    println!(
-        "{all} cases ({fixed} fixed, {} random; seed {seed}, {count} rounds) in {time:.1} s",
-        all - fixed
-    );
-    require_all_numbers(&trial.tally, count);
     println!("the library and the paper agree");
+}
+
+/// How often each call answered each number, and how many cases were fixed, at leaps and random.
+fn print_counts(parts: &[&Tally; 3], rounds: &str, started: Instant) {
+    let mut all = Tally::default();
+    parts.iter().for_each(|part| all.add(part));
+    CALLS.iter().for_each(|&call| println!("{}", all.line(call)));
+    let [fixed, at_leaps, random] = parts.map(Tally::total);
+    let (all, time) = (all.total(), started.elapsed().as_secs_f64());
+    println!("{all} cases ({fixed} fixed, {at_leaps} at leaps, {random} random; {rounds}) in {time:.1} s");
 }
 
 fn parsed(argument: &str) -> u64 {
@@ -60,16 +73,14 @@ fn parsed(argument: &str) -> u64 {
         .unwrap_or_else(|_| fail(&format!("{argument} is not a number")))
 }
 
-/// Random rounds that no longer come upon some number are noticed, unless they were asked to be few.
-fn require_all_numbers(random_rounds: &Tally, count: u64) {
-    let missing = random_rounds.missing();
-    if count >= COUNT && !missing.is_empty() {
-        let lines = missing
-            .iter()
-            .map(|(call, grammar, number)| format!("{call:?}, grammar {grammar}: number {number}"));
-        fail(&format!(
-            "never occurred in the random rounds:\n{}",
-            lines.collect::<Vec<String>>().join("\n")
-        ));
+/// Cases that no longer come upon some number are noticed, unless they are not made for it.
+fn require_all_numbers(which: &str, tally: &Tally, others: &[u32]) {
+    let missing = tally.missing().into_iter();
+    let missing = missing.filter(|(_, _, number)| !others.contains(number));
+    let lines: Vec<String> = missing
+        .map(|(call, grammar, number)| format!("{call:?}, grammar {grammar}: number {number}"))
+        .collect();
+    if !lines.is_empty() {
+        fail(&format!("never occurred {which}:\n{}", lines.join("\n")));
     }
 }

@@ -1,6 +1,7 @@
 //! The random rounds: a text for the readers, or a list of labels and data for the writer.
 
 use crate::fixed::UNKNOWN_GRAMMARS;
+use crate::leaps;
 use crate::paper::{table, Found, Message, BEGIN, DATA_LIMIT, GRAMMARS, TEXT_LIMIT};
 use crate::random::Random;
 use crate::samples::M;
@@ -19,11 +20,18 @@ const SMALL_TEXT: usize = 200;
 
 pub fn run(trial: &mut Trial, random: &mut Random, count: u64) {
     for _ in 0..count {
-        match random.below(4) {
+        match random.below(6) {
             0 => written_list(trial, random),
+            1 | 2 => lined(trial, random),
             _ => text(trial, random),
         }
     }
+}
+
+/// Lines that may be long enough to leap, damaged where a leap begins or ends.
+fn lined(trial: &mut Trial, random: &mut Random) {
+    let text = leaps::random_text(random);
+    trial.text(&text, &mut Rooms::Two(random));
 }
 
 fn text(trial: &mut Trial, random: &mut Random) {

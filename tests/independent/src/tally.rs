@@ -13,7 +13,7 @@ pub enum Call {
 pub const CALLS: [Call; 4] = [Call::Read, Call::Label, Call::Index, Call::Write];
 const NUMBERS: usize = WRITER_LONG_DATA as usize + 1;
 /// The slot of all grammar numbers but 1, 2 and 3, and of the writer, which has none.
-const NO_GRAMMAR: usize = 0;
+pub const NO_GRAMMAR: u32 = 0;
 const SLOTS: usize = 4;
 
 const BY_READERS: [u32; 10] = [
@@ -43,7 +43,7 @@ pub struct Tally([[[u64; NUMBERS]; SLOTS]; CALLS.len()]);
 fn slot(grammar: u32) -> usize {
     match grammar {
         LAX | STANDARD | STRICT => grammar as usize,
-        _ => NO_GRAMMAR,
+        _ => NO_GRAMMAR as usize,
     }
 }
 
@@ -54,6 +54,13 @@ impl Tally {
 
     pub fn of_call(&self, call: Call) -> u64 {
         self.0[call as usize].iter().flatten().sum()
+    }
+
+    /// How many cases of a call and grammar were accepted, and how many were refused whatever the room.
+    pub fn accepted_and_refused(&self, call: Call, grammar: u32) -> (u64, u64) {
+        let numbers = &self.0[call as usize][slot(grammar)];
+        let [accepted, small] = [ACCEPTED, SMALL_OUTPUT].map(|number| numbers[number as usize]);
+        (accepted, numbers.iter().sum::<u64>() - accepted - small)
     }
 
     pub fn total(&self) -> u64 {

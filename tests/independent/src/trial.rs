@@ -10,6 +10,8 @@ use zullifern::raw::{self, Report};
 
 /// A room that no result is too near to.
 const LARGE: usize = 200;
+/// Rooms around a line of data and a line of characters, which may be written at once.
+const AT_ONCE: [usize; 6] = [47, 48, 49, 63, 64, 65];
 /// Rooms from 0 up to the size and this many more are all of them.
 const BEYOND: usize = 2;
 /// No message is shorter.
@@ -26,6 +28,8 @@ pub enum Rooms<'a> {
     All,
     /// Those around the ends.
     Edges,
+    /// Those, and those around what may be written at once.
+    Leaps,
     /// One less than the size, and the size.
     Tight,
     /// The size alone.
@@ -40,6 +44,7 @@ impl Rooms<'_> {
         match self {
             Rooms::All => (0..=size + BEYOND).collect(),
             Rooms::Edges => edges.to_vec(),
+            Rooms::Leaps => [edges, AT_ONCE].concat(),
             Rooms::Tight => edges[2..4].to_vec(),
             Rooms::Exact => vec![size],
             Rooms::Two(random) => vec![random.pick(&edges[3..]), random.pick(&edges)],

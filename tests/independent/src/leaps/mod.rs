@@ -1,0 +1,93 @@
+//! Inputs that reach the edges of leaps. A leap is what may be taken at once: a group, a block of 16 or of 64 characters, a
+//! line with its line end, a run of blanks, a word of a boundary, a label with its hyphens; by the writer, a line of 48 bytes.
+//! No answer may show whether there was one.
+
+mod bodies;
+mod boundaries;
+mod damage;
+mod lines;
+mod outputs;
+mod random_lines;
+
+use crate::paper::{LAX, STANDARD, STRICT};
+use crate::random::Random;
+use crate::tally::{Call, Tally, NO_GRAMMAR};
+use crate::trial::{fail, Trial};
+pub use random_lines::text as random_text;
+
+/// Cases of one kind.
+struct Family {
+    name: &'static str,
+    /// The calls, and their grammars, that it tries with inputs that are accepted and with ones that are refused.
+    tried: &'static [(Call, u32)],
+    run: fn(&mut Trial, &mut Random),
+}
+
+const INDEX: &[(Call, u32)] = &[(Call::Index, LAX), (Call::Index, STANDARD), (Call::Index, STRICT)];
+const READERS: &[(Call, u32)] = &[
+    (Call::Read, LAX),
+    (Call::Read, STANDARD),
+    (Call::Read, STRICT),
+    (Call::Label, LAX),
+    (Call::Label, STANDARD),
+    (Call::Label, STRICT),
+    (Call::Index, LAX),
+    (Call::Index, STANDARD),
+    (Call::Index, STRICT),
+];
+const WRITER: &[(Call, u32)] = &[(Call::Write, NO_GRAMMAR)];
+
+const fn family(name: &'static str, tried: &'static [(Call, u32)], run: fn(&mut Trial, &mut Random)) -> Family {
+    Family { name, tried, run }
+}
+
+const FAMILIES: [Family; 14] = [
+    family("plain lines", READERS, bodies::plain),
+    family("spaced lines", READERS, bodies::spaced),
+    family("ragged lines", READERS, bodies::ragged),
+    family("damaged lines", READERS, bodies::damaged),
+    family("damaged bundles", INDEX, bodies::damaged_in_bundles),
+    family("starts", READERS, bodies::starts),
+    family("bytes", READERS, bodies::every_byte),
+    family("runs of white", READERS, bodies::runs),
+    family("boundaries", READERS, boundaries::damaged),
+    family("labels", READERS, boundaries::labels),
+    family("joints", INDEX, boundaries::joints),
+    family("rooms", READERS, outputs::rooms),
+    family("long texts", READERS, bodies::long),
+    family("written", WRITER, outputs::written),
+];
+
+/// Runs all families, and tells how many cases each had.
+pub fn run(trial: &mut Trial, random: &mut Random) -> Vec<String> {
+    let counted = |family: &Family| format!("{} {}", family.name, family.cases(trial, random));
+    FAMILIES.iter().map(counted).collect()
+}
+
+impl Family {
+    fn cases(&self, trial: &mut Trial, random: &mut Random) -> u64 {
+        let before = std::mem::take(&mut trial.tally);
+        (self.run)(trial, random);
+        self.require_both(&trial.tally);
+        let count = trial.tally.total();
+        trial.tally.add(&before);
+        count
+    }
+
+    /// A family that no longer comes upon both, what is accepted and what is refused, is noticed.
+    fn require_both(&self, tally: &Tally) {
+        for &(call, grammar) in self.tried {
+            let (accepted, refused) = tally.accepted_and_refused(call, grammar);
+            if accepted == 0 || refused == 0 {
+                let counts = format!("{accepted} cases are accepted, {refused} refused");
+                fail(&format!("{}, {call:?}, grammar {grammar}: {counts}", self.name));
+            }
+        }
+    }
+}
+
+/// Each of the first with each of the second.
+fn pairs<A: Copy, B: Copy>(first: &[A], second: &[B]) -> Vec<(A, B)> {
+    let with = |a: A| second.iter().map(move |&b| (a, b));
+    first.iter().flat_map(|&a| with(a)).collect()
+}
