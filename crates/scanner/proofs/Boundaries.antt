@@ -30,7 +30,7 @@ use Rattle.machine.specs.declared.Phase.the-variants.{Word, Label}
 use Rattle.reading.specs.declared.Tally.{Tally}
 use Rattle.reading.specs.Scan.{tallied}
 use Rattle.runs.specs.Runs.{Stands, LabelRun}
-use Rattle.scanner.specs.Advances.{Advanced, Continues, boundaryTallied}
+use Rattle.scanner.specs.Advances.{Advanced, Countable, Continues, Closes, boundaryTallied, endedTallied}
 use Rattle.scanner.proofs.Advances.{advanced-none, advanced-then, advanced-byte, step-moves}
 
 -- A byte leads from one phase of a boundary on.
@@ -245,3 +245,30 @@ label-through {g} {text} b p f cr t i j h inside a s = go (eqb i j) refl
 pub with-phase : {g : Grammar} {text : List ℕ} (s : State) {p : Phase} {t : Tally} {i : ℕ} {s' : State} {t' : Tally} {j : ℕ} → s .phase ≡ p
     → Advanced g text (state p (s .cr)) t i s' t' j → Advanced g text s t i s' t' j
 with-phase {g} {text} s {t = t} {i = i} {s' = s'} {t' = t'} {j = j} e l = subst (λ (q : Phase). Advanced g text (state q (s .cr)) t i s' t' j) (sym e) l
+
+-- ---- The LF behind a boundary, and the hyphen before the closing
+
+pub ended-leap : {text : List ℕ} (g : Grammar) (b : Boundary) (t : Tally) (i : ℕ) → i < length text → getD text i 0 ≡ LF
+    → Advanced g text (state (behind g b) false) t i (state (next g (behind g b) LF) false) (endedTallied b t) (i + 1)
+ended-leap {text} g b t i h e = go g b
+  where
+    go : (g : Grammar) (b : Boundary) → Advanced g text (state (behind g b) false) t i (state (next g (behind g b) LF) false) (endedTallied b t) (i + 1)
+    go grammar.Lax Opening = advanced-byte _ t i _ _ h (rw e) refl (rw e)
+    go grammar.Standard Opening = advanced-byte _ t i _ _ h (rw e) refl (rw e)
+    go grammar.Strict Opening = advanced-byte _ t i _ _ h (rw e) refl (rw e)
+    go grammar.Lax Closing = advanced-byte _ t i _ _ h (rw e) refl refl
+    go grammar.Standard Closing = advanced-byte _ t i _ _ h (rw e) refl refl
+    go grammar.Strict Closing = advanced-byte _ t i _ _ h (rw e) refl refl
+
+pub closing-leap : {g : Grammar} {text : List ℕ} {p : Phase} → Closes p → (cr : Bool) (t : Tally) (i : ℕ) → i < length text → getD text i 0 ≡ hyphen
+    → Advanced g text (state p cr) t i (state (Word Closing 1) false) (boundaryTallied Closing 1 t) (i + 1)
+closing-leap {g} {text} {p} w cr t i h e =
+    let no-lf : eqb (getD text i 0) LF ≡ false = rw e in
+    let no-cr : eqb (getD text i 0) CR ≡ false = rw e in
+    let leads : next g p (getD text i 0) ≡ Word Closing 1 = rw e (w .leads g) in
+    advanced-byte (state p cr) t i (state (Word Closing 1) false) (boundaryTallied Closing 1 t) h (step-moves g p cr (getD text i 0) no-lf ∙ rw (leads, no-cr)) refl (rw (w .from))
+
+-- Bytes of a boundary leave the rest countable.
+pub boundary-countable : (text : List ℕ) (b : Boundary) (n : ℕ) (t : Tally) (i j : ℕ) → Countable text t i → j ≡ i + n → j ≤ length text → Countable text (boundaryTallied b n t) j
+boundary-countable text Opening n t i j h e inside = omega arith
+boundary-countable text Closing n t i j h e inside = omega arith

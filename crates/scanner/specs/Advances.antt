@@ -5,7 +5,7 @@ use mathlib.Core.List.{List}
 use Prim.Native.Nat.{ℕ, _+_, _-_, _*_, _≤_, _<_, _^_}
 use lib.Dec.{eqb}
 use lib.ListN.{length, drop}
-use Rattle.grammar.specs.Marks.{HT, SP, CR, LF}
+use Rattle.grammar.specs.Marks.{HT, SP, CR, LF, hyphen}
 use Rattle.grammar.specs.declared.Grammar.{Grammar}
 use Rattle.machine.proofs.Machine.{state, next, partOf, dead, labelRow}
 use Rattle.machine.proofs.Runs.{Takes}
@@ -19,7 +19,7 @@ use Rattle.machine.specs.declared.LaxPhase.the-variants as lax
 use Rattle.machine.specs.declared.StandardPhase.the-variants as standard
 use Rattle.machine.specs.declared.StrictPhase.the-variants as strict
 use Rattle.machine.specs.declared.Phase.{Phase}
-use Rattle.machine.specs.declared.Phase.the-variants.{Lax, Standard, Strict}
+use Rattle.machine.specs.declared.Phase.the-variants.{Word, Lax, Standard, Strict}
 use Rattle.machine.specs.declared.State.{State}
 use Rattle.reading.specs.declared.Tally.{Tally}
 use Rattle.reading.specs.Scan.{tally, stopped, scanOf}
@@ -82,6 +82,11 @@ behindLines i s t q j groups m = cond (eqb groups 0) (positionAt i s t) (positio
 abbrev pub boundaryTallied : Boundary → ℕ → Tally → Tally
 boundaryTallied Opening n t = tally (t .before) (t .opening + n) (t .body) (t .closing) (t .characters) (t .pads) (t .last)
 boundaryTallied Closing n t = tally (t .before) (t .opening) (t .body) (t .closing + n) (t .characters) (t .pads) (t .last)
+
+-- The LF behind a boundary, counted: it is the body's behind the opening, and behind the closing nothing is counted.
+abbrev pub endedTallied : Boundary → Tally → Tally
+endedTallied Opening t = othersTallied 1 t
+endedTallied Closing t = t
 
 -- ---- Lines
 
@@ -147,3 +152,8 @@ pub record Continues (p : LabelPhase) : Type 0 where
   pub char : (labelRow p) .char ≡ To Char
   pub first : (labelRow p) .hyphen ≡ To q
   pub second : (labelRow q) .hyphen ≡ To Two
+
+-- A hyphen in a phase of the body is the first of the closing.
+pub record Closes (p : Phase) : Type 0 where
+  pub from : partOf p ≡ part.Body
+  pub leads : (g : Grammar) → next g p hyphen ≡ Word Closing 1

@@ -2,27 +2,32 @@
 // Runs of bytes that keep the machine in phases of one kind are passed at once. Each such function promises that the scan goes on
 // behind the run as if it had read the bytes one by one; the machine's own step decides whatever no run covers.
 ghost use mathlib.Core.Path.{_≡_};
+ghost use mathlib.Core.Logic.{_≢_};
 ghost use mathlib.Core.Bool.{Bool, true, false};
 ghost use Prim.Native.Nat.{_+_, _-_, _*_, _≤_, _<_, _^_};
-ghost use lib.ListN.{length, drop};
+ghost use lib.ListN.{length, drop, getD};
 ghost use Rattle.grammar.specs.declared.Grammar.{Grammar};
-ghost use Rattle.machine.proofs.Machine.{state, wordOf, start};
+ghost use Rattle.grammar.specs.Marks.{LF, hyphen};
+ghost use Rattle.machine.proofs.Machine.{state, wordOf, behind, next, start};
 ghost use Rattle.machine.specs.declared.LabelPhase.{LabelPhase};
 ghost use Rattle.machine.specs.declared.Phase.{Phase};
 ghost use Rattle.machine.specs.declared.Phase.the-variants.{Strict, Word, Label};
+ghost use Rattle.machine.specs.declared.LabelPhase.the-variants.{Start};
 ghost use Rattle.machine.specs.declared.StrictPhase.the-variants.{Data};
 ghost use Rattle.reading.specs.Scan.{Roomy, noTally, bodyTallied, tallied, stopped, scanOf};
 ghost use Rattle.reading.proofs.Scans.{Within};
 ghost use Rattle.decoder.specs.Tables.{groupTable};
 ghost use Rattle.runs.specs.Runs.{between};
 ghost use Rattle.decoder.specs.Decoding.{Decoded};
-ghost use Rattle.scanner.specs.Advances.{positionAt, Advanced, Stopped, Countable, OnCharacter, LinePhases, LinesFrom, LinesFit, Continues, runTallied, othersTallied, linesTallied, boundaryTallied, behindLines};
+ghost use Rattle.scanner.specs.Advances.{positionAt, Advanced, Stopped, Countable, OnCharacter, LinePhases, LinesFrom, LinesFit, Continues, Closes, runTallied, othersTallied, linesTallied, boundaryTallied, endedTallied, behindLines};
 use base64::GROUP_BYTES;
 use base64::GROUP_CHARS;
 use grammar::BEGIN;
 use grammar::END;
 use grammar::Grammar;
+use grammar::HYPHEN;
 use grammar::HYPHENS;
+use grammar::LF;
 use grammar::LINE_CHARS;
 use grammar::SP;
 use grammar::TextOffset;
@@ -408,13 +413,13 @@ fn advance_word(
     read: usize,
 ) -> Position
     requires { ⌜ Countable (now text) tally at × (now word ≡ wordOf boundary) × (state .phase ≡ Word boundary read) ⌝ }
-    ensures { λ r. ⌜ ((g : Grammar) → Advanced g (now (text .entry)) state tally at (r .state) (r .tally) (r .at)) ⌝ }
+    ensures { λ r. ⌜ ((g : Grammar) → Advanced g (now (text .entry)) state tally at (r .state) (r .tally) (r .at)) × Countable (now (text .entry)) (r .tally) (r .at) × (r .at ≢ at → r .state .phase ≡ Label boundary Start) ⌝ }
 {
     if word.len() <= read {
-        return stay(text, at, state, tally);
+        return Position { at, state, tally };
     }
     if !runs::stands(text, at, word, read) {
-        return stay(text, at, state, tally);
+        return Position { at, state, tally };
     }
     let n = word.len() - read;
     Position {
@@ -425,6 +430,58 @@ fn advance_word(
         },
         tally: tally_boundary(boundary, tally, n),
     }
+}
+
+// The phase behind the LF of a boundary's line.
+fn ended_boundary(grammar: Grammar, boundary: Boundary) -> Phase
+    ensures { λ r. ⌜ r ≡ next grammar (behind grammar boundary) LF ⌝ }
+{
+    match boundary {
+        Boundary::Opening => match grammar {
+            Grammar::Lax => Phase::Lax(LaxPhase::Data),
+            Grammar::Standard => Phase::Standard(StandardPhase::Leading),
+            Grammar::Strict => Phase::Strict(StrictPhase::First),
+        },
+        Boundary::Closing => match grammar {
+            Grammar::Lax => Phase::Lax(LaxPhase::Closed),
+            Grammar::Standard => Phase::Standard(StandardPhase::Ended),
+            Grammar::Strict => Phase::Strict(StrictPhase::Ended),
+        },
+    }
+}
+
+// That LF, counted: it is the body's behind the opening, and behind the closing nothing is counted.
+fn tally_ended(boundary: Boundary, tally: Tally) -> Tally
+    requires { ⌜ tally .body + 1 < 2 ^ 64 ⌝ }
+    ensures { λ r. ⌜ r ≡ endedTallied boundary tally ⌝ }
+{
+    match boundary {
+        Boundary::Opening => tally_others(tally, 1),
+        Boundary::Closing => tally,
+    }
+}
+
+// Behind a boundary, and behind the LF that usually follows it.
+fn behind_label(
+    text: &[u8],
+    at: usize,
+    grammar: Grammar,
+    tally: Tally,
+    boundary: Boundary,
+) -> Position
+    requires { ⌜ Countable (now text) tally at ⌝ }
+    ensures { λ r. ⌜ Advanced grammar (now (text .entry)) (state (behind grammar boundary) false) tally at (r .state) (r .tally) (r .at) ⌝ }
+{
+    if at < text.len() {
+        if text[at] == LF {
+            return at_phase(
+                at + 1,
+                ended_boundary(grammar, boundary),
+                tally_ended(boundary, tally),
+            );
+        }
+    }
+    at_phase(at, engine::behind_boundary(grammar, boundary), tally)
 }
 
 // Characters of a label, and the five hyphens behind them.
@@ -442,14 +499,8 @@ fn advance_label(
     let end = runs::label_run_end(text, at);
     let hyphens = HYPHENS;
     if runs::stands(text, end, &hyphens, 0) {
-        return Position {
-            at: end + 5,
-            state: State {
-                phase: engine::behind_boundary(grammar, boundary),
-                cr: false,
-            },
-            tally: tally_boundary(boundary, tally, end + 5 - at),
-        };
+        let counted = tally_boundary(boundary, tally, end + 5 - at);
+        return behind_label(text, end + 5, grammar, counted, boundary);
     }
     if end == at {
         return stay(text, at, state, tally);
@@ -462,6 +513,96 @@ fn advance_label(
         },
         tally: tally_boundary(boundary, tally, end - at),
     }
+}
+
+// The rest of the word of a boundary.
+fn advance_words(
+    text: &[u8],
+    at: usize,
+    state: State,
+    tally: Tally,
+    boundary: Boundary,
+    read: u8,
+) -> Position
+    requires { ⌜ Countable (now text) tally at × (state .phase ≡ Word boundary read) ⌝ }
+    ensures { λ r. ⌜ ((g : Grammar) → Advanced g (now (text .entry)) state tally at (r .state) (r .tally) (r .at)) × Countable (now (text .entry)) (r .tally) (r .at) × (r .at ≢ at → r .state .phase ≡ Label boundary Start) ⌝ }
+{
+    match boundary {
+        Boundary::Opening => {
+            let begin = BEGIN;
+            advance_word(text, at, state, tally, boundary, &begin, read as usize)
+        }
+        Boundary::Closing => {
+            let end = END;
+            advance_word(text, at, state, tally, boundary, &end, read as usize)
+        }
+    }
+}
+
+// A boundary, from some byte of its word on: the word, the label, its hyphens and a LF, as far as they stand there.
+fn advance_boundary(
+    text: &[u8],
+    at: usize,
+    grammar: Grammar,
+    state: State,
+    tally: Tally,
+    boundary: Boundary,
+    read: u8,
+) -> Position
+    requires { ⌜ Countable (now text) tally at × (state .phase ≡ Word boundary read) ⌝ }
+    ensures { λ r. ⌜ Advanced grammar (now (text .entry)) state tally at (r .state) (r .tally) (r .at) ⌝ }
+{
+    let word = advance_words(text, at, state, tally, boundary, read);
+    let begin = word.at;
+    let labelled = word.state;
+    let counted = word.tally;
+    if begin == at {
+        return stay(text, at, state, tally);
+    }
+    advance_label(text, begin, grammar, labelled, counted, boundary)
+}
+
+// Whether a hyphen in this phase is the first of the closing.
+fn closes(phase: Phase) -> bool
+    ensures { λ r. ⌜ (r ≡ true → Closes phase) ⌝ }
+{
+    match phase {
+        Phase::Lax(lax) => match lax {
+            LaxPhase::Data => true,
+            LaxPhase::OnePad => true,
+            LaxPhase::TwoPads => true,
+            _ => false,
+        },
+        Phase::Standard(standard) => match standard {
+            StandardPhase::BlankLine => true,
+            StandardPhase::Line => true,
+            StandardPhase::Final => true,
+            _ => false,
+        },
+        Phase::Strict(strict) => match strict {
+            StrictPhase::Line => true,
+            StrictPhase::Final => true,
+            _ => false,
+        },
+        _ => false,
+    }
+}
+
+// The closing, where it may stand.
+fn advance_closing(text: &[u8], at: usize, grammar: Grammar, state: State, tally: Tally) -> Position
+    requires { ⌜ Countable (now text) tally at × (at < length (now text)) × (getD (now text) at 0 ≡ hyphen) ⌝ }
+    ensures { λ r. ⌜ Advanced grammar (now (text .entry)) state tally at (r .state) (r .tally) (r .at) ⌝ }
+{
+    let phase = state.phase;
+    if !closes(phase) {
+        return stay(text, at, state, tally);
+    }
+    let word = State {
+        phase: Phase::Word(Boundary::Closing, 1),
+        cr: false,
+    };
+    let counted = tally_boundary(Boundary::Closing, tally, 1);
+    advance_boundary(text, at + 1, grammar, word, counted, Boundary::Closing, 1)
 }
 
 // Lines of the body, where one begins.
@@ -486,28 +627,15 @@ fn advance_body(text: &[u8], at: usize, state: State, tally: Tally) -> Position
     }
 }
 
-// The rest of the word of a boundary.
-fn advance_words(
-    text: &[u8],
-    at: usize,
-    state: State,
-    tally: Tally,
-    boundary: Boundary,
-    read: u8,
-) -> Position
-    requires { ⌜ Countable (now text) tally at × (state .phase ≡ Word boundary read) ⌝ }
-    ensures { λ r. ⌜ ((g : Grammar) → Advanced g (now (text .entry)) state tally at (r .state) (r .tally) (r .at)) ⌝ }
+// Behind the opening: the closing, or lines of the body.
+fn advance_inside(text: &[u8], at: usize, grammar: Grammar, state: State, tally: Tally) -> Position
+    requires { ⌜ Countable (now text) tally at × (at < length (now text)) ⌝ }
+    ensures { λ r. ⌜ Advanced grammar (now (text .entry)) state tally at (r .state) (r .tally) (r .at) ⌝ }
 {
-    match boundary {
-        Boundary::Opening => {
-            let begin = BEGIN;
-            advance_word(text, at, state, tally, boundary, &begin, read as usize)
-        }
-        Boundary::Closing => {
-            let end = END;
-            advance_word(text, at, state, tally, boundary, &end, read as usize)
-        }
+    if text[at] == HYPHEN {
+        return advance_closing(text, at, grammar, state, tally);
     }
+    advance_body(text, at, state, tally)
 }
 
 // The run that stands at a place, if the phase has one. None begins with white, where the search for one would be in vain.
@@ -520,13 +648,21 @@ fn advance_run(text: &[u8], at: usize, grammar: Grammar, state: State, tally: Ta
     }
     let phase = state.phase;
     match phase {
-        Phase::Word(boundary, read) => advance_words(text, at, state, tally, boundary, read),
+        Phase::Word(boundary, read) => advance_boundary(
+            text,
+            at,
+            grammar,
+            state,
+            tally,
+            boundary,
+            read,
+        ),
         Phase::Label(boundary, label) => match label {
             LabelPhase::Start => advance_label(text, at, grammar, state, tally, boundary),
             LabelPhase::Char => advance_label(text, at, grammar, state, tally, boundary),
             _ => stay(text, at, state, tally),
         },
-        _ => advance_body(text, at, state, tally),
+        _ => advance_inside(text, at, grammar, state, tally),
     }
 }
 

@@ -1,10 +1,7 @@
 -- `scanner::advance_label` meets its contract. Assumes nothing.
-use mathlib.Core.Path.{_≡_, refl, sym, ap, _∙_}
-use Prim.Native.Nat.{ℕ, _+_, _-_, _≤_, _<_}
 use native.Mathlib.Omega.{arith}
-use lib.ListN.{length, getD}
-use borrow.Author.Tests.{not-false}
-use Rattle.scanner.proofs.Boundaries.{with-phase, word-leap, label-leap, label-through}
+use Rattle.scanner.proofs.Advances.{advanced-then}
+use Rattle.scanner.proofs.Boundaries.{with-phase, label-leap, label-through, boundary-countable}
 use borrow.Author.Needs.{needs}
 use Rattle.scanner.proofs.advance_label.Statement.{statement}
 use Rattle.scanner.proofs.advance_label.Tie as tie
@@ -18,12 +15,6 @@ slice-aggregate-stands c = search needs
 stands-requires : tie.Need-stands-requires
 stands-requires c κs = search needs
 
-add-t13 : tie.Need-add-t13
-add-t13 c = search needs
-
-behind-boundary-requires : tie.Need-behind-boundary-requires
-behind-boundary-requires c κs = search needs
-
 add-tally-boundary : tie.Need-add-tally-boundary
 add-tally-boundary c = search needs
 
@@ -32,8 +23,18 @@ sub-tally-boundary c = search needs
 
 tally-boundary-requires : tie.Need-tally-boundary-requires
 tally-boundary-requires c κs =
-    let there = c .before .before .stands .ensures (c .before .if1 .taken) in
+    let there = c .before .stands .ensures (c .if1 .taken) in
     (omega (arith, there .room), omega (arith, there .room))
+
+add-behind-label : tie.Need-add-behind-label
+add-behind-label c = search needs
+
+behind-label-requires : tie.Need-behind-label-requires
+behind-label-requires c κs =
+    let start = c .before .before .before .before .before .before in
+    let ran = c .before .before .before .before .label-run-end in
+    let there = c .before .before .stands .ensures (c .before .if1 .taken) in
+    rw (c .tally-boundary .ensures) (boundary-countable (start .args .text .now) (start .args .boundary) _ (start .args .tally) (start .args .at) _ (start .pre) (omega (arith, ran .ensures .0)) (omega (arith, there .room)))
 
 returns : tie.Need-returns
 returns c =
@@ -41,8 +42,9 @@ returns c =
     let ran = c .before .before .before .before .before .label-run-end in
     let there = c .before .before .before .stands .ensures (c .before .before .if1 .taken) in
     λ p f e.
-    rw (c .tally-boundary .ensures, c .before .behind-boundary .ensures)
+    advanced-then
     (with-phase (start .args .state) e (label-through (start .args .boundary) p f (start .args .state .cr) (start .args .tally) (start .args .at) (ran .result) (ran .ensures .0) (ran .ensures .1) (ran .ensures .2) there))
+    (rw (c .before .tally-boundary .ensures) at (c .behind-label .ensures))
 
 stay-requires : tie.Need-stay-requires
 stay-requires c κs = search needs
@@ -71,11 +73,11 @@ advance-label-spec =
     label-run-end-requires
     slice-aggregate-stands
     stands-requires
-    add-t13
-    behind-boundary-requires
     add-tally-boundary
     sub-tally-boundary
     tally-boundary-requires
+    add-behind-label
+    behind-label-requires
     returns
     stay-requires
     returns-2

@@ -20,8 +20,8 @@ returns c = c .stay .ensures (c .before .before .before .before .args .grammar)
 enum-known-phase : tie.Need-enum-known-phase
 enum-known-phase c = search needs
 
-advance-words-requires : tie.Need-advance-words-requires
-advance-words-requires c κs = search needs
+advance-boundary-requires : tie.Need-advance-boundary-requires
+advance-boundary-requires c κs = search needs
 
 enum-known-phase-2 : tie.Need-enum-known-phase-2
 enum-known-phase-2 c = search needs
@@ -41,11 +41,11 @@ advance-label-requires-2 c κs = search needs
 stay-requires-2 : tie.Need-stay-requires-2
 stay-requires-2 c κs = search needs
 
-advance-body-requires : tie.Need-advance-body-requires
-advance-body-requires c κs = search needs
+advance-inside-requires : tie.Need-advance-inside-requires
+advance-inside-requires c κs = search needs
 
 returns-2 : tie.Need-returns-2
-returns-2 c = c .advance-words .ensures (c .before .before .before .before .before .before .before .args .grammar)
+returns-2 c = search needs
 
 returns-3 : tie.Need-returns-3
 returns-3 c = c .advance-label .ensures Start continues-start (cc)
@@ -57,7 +57,7 @@ returns-5 : tie.Need-returns-5
 returns-5 c = c .stay2 .ensures (c .before .before .before .before .before .before .before .before .args .grammar)
 
 returns-6 : tie.Need-returns-6
-returns-6 c = c .advance-body .ensures (c .before .before .before .before .before .args .grammar)
+returns-6 c = search needs
 
 pub advance-run-spec : {M : Type 1} → statement M
 advance-run-spec =
@@ -67,14 +67,14 @@ advance-run-spec =
     stay-requires
     returns
     enum-known-phase
-    advance-words-requires
+    advance-boundary-requires
     enum-known-phase-2
     enum-told
     advance-label-requires
     enum-told-2
     advance-label-requires-2
     stay-requires-2
-    advance-body-requires
+    advance-inside-requires
     returns-2
     returns-3
     returns-4

@@ -8,7 +8,6 @@ use borrow.Author.Needs.{needs}
 use Rattle.scanner.proofs.advance_words.Statement.{statement}
 use Rattle.scanner.proofs.advance_words.Tie as tie
 
--- /work/main/target/rlib/engine.rlib/interface/lang/src/lib.rt:10:33
 enum-told : tie.Need-enum-told
 enum-told c = search needs
 
@@ -18,7 +17,6 @@ slice-aggregate-advance-word c = search needs
 advance-word-requires : tie.Need-advance-word-requires
 advance-word-requires c κs = (c .before .before .before .before .pre .0, sym (ap wordOf (c .before .enum-told .given .1)), c .before .before .before .before .pre .1)
 
--- /work/main/target/rlib/engine.rlib/interface/lang/src/lib.rt:11:30
 enum-told-2 : tie.Need-enum-told-2
 enum-told-2 c = search needs
 

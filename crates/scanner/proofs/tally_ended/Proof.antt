@@ -1,0 +1,31 @@
+-- `scanner::tally_ended` meets its contract. Assumes nothing.
+use mathlib.Core.Path.{_≡_, _∙_}
+use Rattle.machine.specs.declared.Boundary.the-variants.{Opening}
+use borrow.Author.Needs.{needs}
+use Rattle.scanner.proofs.tally_ended.Statement.{statement}
+use Rattle.scanner.proofs.tally_ended.Tie as tie
+
+enum-told : tie.Need-enum-told
+enum-told c = search needs
+
+tally-others-requires : tie.Need-tally-others-requires
+tally-others-requires c κs = search needs
+
+enum-told-2 : tie.Need-enum-told-2
+enum-told-2 c = search needs
+
+returns : tie.Need-returns
+returns c = c .tally-others .ensures ∙ simp (c .before .enum-told .given .1)
+
+returns-2 : tie.Need-returns-2
+returns-2 c = search needs
+
+pub tally-ended-spec : {M : Type 1} → statement M
+tally-ended-spec =
+    tie.close
+    (tie.spec
+    enum-told
+    tally-others-requires
+    enum-told-2
+    returns
+    returns-2)
