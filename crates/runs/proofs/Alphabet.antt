@@ -15,7 +15,7 @@ use Rattle.grammar.specs.Marks.{Blank}
 use Rattle.grammar.specs.Message.{characters}
 use Rattle.grammar.proofs.Counts.{characters-append, characters-alphabet}
 use Rattle.runs.specs.Runs.{NoCharacter, Characters, Outside, Blanks, LineEndAt, none, lf, crlf}
-use Rattle.runs.proofs.Runs.{run-none, run-then}
+use Rattle.runs.proofs.Runs.{run-none, run-one, run-then}
 
 -- One test over bytes that follow each other.
 pub inside-range : (first n : ℕ) → T (run (λ c. ltb (valueOf c) radix) first n) → (c : ℕ) → first ≤ c → c < first + n → AlphabetChar c
@@ -64,13 +64,10 @@ blank-outside c (inr e) = rw e
 pub blanks-outside : {text : List ℕ} {i j : ℕ} → Blanks text i j → Outside text i j
 blanks-outside {text} b = record { all = λ k low high. blank-outside (getD text k 0) (b .all k low high) }
 
-one-outside : {text : List ℕ} {i : ℕ} → NoCharacter (getD text i 0) → Outside text i (i + 1)
-one-outside {text} {i} h = record { all = λ k low high. let here : k ≡ i = omega arith in rw here h }
-
 pub line-end-outside : {text : List ℕ} {i n : ℕ} → LineEndAt text i n → Outside text i (i + n)
 unfolding valueOf placeIn alphabet
 line-end-outside none = run-none (omega arith)
-line-end-outside (lf h e) = one-outside (rw e)
+line-end-outside (lf h e) = run-one (rw e)
 line-end-outside {text} {i} (crlf h e f) =
     let two : i + 1 + 1 ≡ i + 2 = omega arith in
-    rw two at (run-then {text = text} (one-outside (rw e)) (one-outside {i = i + 1} (rw f)))
+    rw two at (run-then {Kind = NoCharacter} {text = text} (run-one (rw e)) (run-one {i = i + 1} (rw f)))

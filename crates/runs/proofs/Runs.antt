@@ -29,6 +29,9 @@ module _ {Kind : ℕ → Type 0} {text : List ℕ} {i j : ℕ} where
       go k low high true e = a .all k low (ltb-true k j e)
       go k low high false e = b .all k (ltb-false k j e) high
 
+pub run-one : {Kind : ℕ → Type 0} {text : List ℕ} {i : ℕ} → Kind (getD text i 0) → Run Kind text i (i + 1)
+run-one h = run-more (run-none (omega arith)) h _ refl
+
 -- What stands between two places, in two parts.
 pub between-join : (text : List ℕ) (i j l : ℕ) → i ≤ j → j ≤ l → between text i l ≡ between text i j ++ between text j l
 between-join text i j l h more =

@@ -5,7 +5,7 @@ use mathlib.Core.List.{List}
 use Prim.Native.Nat.{ℕ, _+_, _-_, _*_, _≤_, _<_}
 use lib.Dec.{ltb}
 use lib.ListN.{length, take, drop, getD}
-use Rattle.base64.specs.Alphabet.{radix, valueOf, AlphabetChar}
+use Rattle.base64.specs.Alphabet.{radix, pad, valueOf, AlphabetChar}
 use Rattle.grammar.specs.Marks.{CR, LF, Blank, LabelChar}
 
 -- The bytes from i on and before j are of one kind.
@@ -26,6 +26,10 @@ Outside = Run NoCharacter
 -- They are blanks.
 abbrev pub Blanks : List ℕ → ℕ → ℕ → Type 0
 Blanks = Run Blank
+
+-- They are pads.
+abbrev pub Pads : List ℕ → ℕ → ℕ → Type 0
+Pads = Run (λ c. c ≡ pad)
 
 -- They are label characters.
 abbrev pub LabelRun : List ℕ → ℕ → ℕ → Type 0

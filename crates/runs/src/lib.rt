@@ -6,7 +6,8 @@ ghost use Prim.Native.Nat.{_+_, _≤_};
 ghost use lib.ListN.{length};
 ghost use Rattle.base64.specs.Alphabet.{AlphabetChar};
 ghost use Rattle.grammar.specs.Marks.{Blank};
-ghost use Rattle.runs.specs.Runs.{Characters, Blanks, LabelRun, LineEndAt, IsLine, LinesTo, Stands};
+ghost use Rattle.runs.specs.Runs.{Characters, Blanks, Pads, LabelRun, LineEndAt, IsLine, LinesTo, Stands};
+use base64::PAD;
 use grammar::CR;
 use grammar::FIRST_MARK;
 use grammar::HT;
@@ -191,6 +192,27 @@ pub fn line_end_at(text: &[u8], at: usize) -> usize
     }
     if text[at + 1] != LF {
         return 0;
+    }
+    2
+}
+
+// How many pads stand at a place, two at most.
+pub fn pads_at(text: &[u8], at: usize) -> usize
+    requires { ⌜ at ≤ length (now text) ⌝ }
+    ensures { λ r. ⌜ (r ≤ 2) × (at + r ≤ length (now (text .entry))) × Pads (now (text .entry)) at (at + r) ⌝ }
+{
+    let left = text.len() - at;
+    if left == 0 {
+        return 0;
+    }
+    if text[at] != PAD {
+        return 0;
+    }
+    if left == 1 {
+        return 1;
+    }
+    if text[at + 1] != PAD {
+        return 1;
     }
     2
 }

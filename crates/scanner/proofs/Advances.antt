@@ -1,16 +1,16 @@
 -- Leaps put together from steps, and a run of alphabet characters in each of the three grammars. Assumes nothing.
 use mathlib.Core.Path.{_≡_, refl, sym, ap, _∙_}
 use mathlib.Core.Bool.{Bool, true, false, cond}
-use mathlib.Core.Logic.{inl, inr}
+use mathlib.Core.Logic.{_≢_, inl, inr}
 use mathlib.Core.List.{List}
-use Prim.Native.Nat.{ℕ, zero, suc, _+_, _-_, _≤_, _<_, _^_}
+use Prim.Native.Nat.{ℕ, zero, suc, _+_, _-_, _%_, _≤_, _<_, _^_}
 use native.Mathlib.Omega.{arith}
 use native.Mathlib.Numerals.{add-one}
 use lib.Dec.{eqb, ltb}
 use lib.ListN.{length, drop, getD, drop-of-length-le}
 use lib.Seq.{drop-cons}
-use borrow.Author.Tests.{ne-eqb, ltb-true, ltb-false}
-use Rattle.base64.specs.Alphabet.{AlphabetChar}
+use borrow.Author.Tests.{eqb-true, eqb-false, ne-eqb, ltb-true, ltb-false}
+use Rattle.base64.specs.Alphabet.{pad, AlphabetChar}
 use Rattle.grammar.specs.Marks.{CR, LF, Blank}
 use Rattle.grammar.specs.declared.Grammar.{Grammar}
 use Rattle.machine.proofs.ByteKinds.{kindOf}
@@ -28,8 +28,8 @@ use Rattle.machine.specs.declared.State.{State}
 use Rattle.reading.specs.declared.Tally.{Tally}
 use Rattle.reading.specs.Scan.{characterTallied, tallied, stopped, scanOf}
 use Rattle.reading.proofs.Scans.{Within, within-next}
-use Rattle.runs.specs.Runs.{Characters, Blanks, LineEndAt, none, lf, crlf}
-use Rattle.scanner.specs.Advances.{Advanced, Stopped, Countable, OnCharacter, OnLineEnd, OnBlank, LinePhases, FullLine, FullLines, runTallied, othersTallied}
+use Rattle.runs.specs.Runs.{Characters, Blanks, LineEndAt, none, lf, crlf, Pads}
+use Rattle.scanner.specs.Advances.{Advanced, Stopped, Countable, OnCharacter, OnLineEnd, OnBlank, LinePhases, FullLine, FullLines, runTallied, othersTallied, OnPad, OnPads, one-pad, two-pads, padsTallied}
 
 module _ {g : Grammar} {text : List ℕ} where
   pub advanced-none : (s : State) (t : Tally) (i : ℕ) → i ≤ length text → Advanced g text s t i s t i
@@ -190,6 +190,73 @@ module _ {g : Grammar} {text : List ℕ} where
           let same : j ≡ k = omega (arith, ltb-false j k q) in
           let here : k - j + n ≡ n = omega arith in
           rw (here, same) (advanced-line-end ends t k e some)
+
+-- ---- Pads
+
+pads-more : (m n : ℕ) (t : Tally) → padsTallied n (padsTallied m t) ≡ padsTallied (m + n) t
+pads-more m n t =
+    let e : t .body + m + n ≡ t .body + (m + n) = omega arith in
+    let f : t .pads + m + n ≡ t .pads + (m + n) = omega arith in
+    rw (e, f)
+
+module _ {g : Grammar} {text : List ℕ} where
+  advanced-pad : {p q : Phase} → OnPad g p q → (cr : Bool) (t : Tally) (i : ℕ) → i < length text → getD text i 0 ≡ pad
+      → Advanced g text (state p cr) t i (state q false) (padsTallied 1 t) (i + 1)
+  advanced-pad {p} {q} w cr t i h e =
+      let no-lf : eqb (getD text i 0) LF ≡ false = rw e in
+      let no-cr : eqb (getD text i 0) CR ≡ false = rw e in
+      let leads : next g p (getD text i 0) ≡ q = rw e (w .takes) in
+      advanced-byte (state p cr) t i (state q false) (padsTallied 1 t) h (step-moves g p cr (getD text i 0) no-lf ∙ rw (leads, no-cr)) (w .alive) (rw (w .from, w .to, e))
+
+  pub pads-line-end : {p q : Phase} {n : ℕ} → OnPads g p n q → (cr : Bool) (t : Tally) (i w : ℕ) → i + n ≤ length text → Pads text i (i + n) → LineEndAt text (i + n) w → 0 < w
+      → Advanced g text (state p cr) t i (state q false) (othersTallied w (padsTallied n t)) (i + n + w)
+  pads-line-end (one-pad first end) cr t i w h a e some =
+      advanced-then (advanced-pad first cr t i (omega arith) (a .all i (omega arith) (omega arith))) (advanced-line-end end (padsTallied 1 t) (i + 1) e some)
+  pads-line-end (two-pads first second end) cr t i w h a e some =
+      let two : i + 1 + 1 ≡ i + 2 = omega arith in
+      let later = rw (two, pads-more 1 1 t) at (advanced-pad second false (padsTallied 1 t) (i + 1) (omega arith) (a .all (i + 1) (omega arith) (omega arith))) in
+      advanced-then (advanced-pad first cr t i (omega arith) (a .all i (omega arith) (omega arith)))
+      (advanced-then later (advanced-line-end end (padsTallied 2 t) (i + 2) e some))
+
+-- The pads that each grammar takes.
+pub lax-one-pad : (g : Grammar) → OnPads g (Lax lax.Data) 1 (Lax lax.OnePad)
+lax-one-pad g = one-pad (record { from = refl; to = refl; alive = refl; takes = refl }) (record { from = refl; to = refl; alive = refl; lf = refl; cr = refl })
+
+pub lax-two-pads : (g : Grammar) → OnPads g (Lax lax.Data) 2 (Lax lax.TwoPads)
+lax-two-pads g =
+    two-pads {a = Lax lax.OnePad} (record { from = refl; to = refl; alive = refl; takes = refl }) (record { from = refl; to = refl; alive = refl; takes = refl })
+    (record { from = refl; to = refl; alive = refl; lf = refl; cr = refl })
+
+standard-one-pad : (g : Grammar) → OnPads g (Standard standard.Data) 1 (Standard standard.Final)
+standard-one-pad g = one-pad {a = Standard standard.OnePad} (record { from = refl; to = refl; alive = refl; takes = refl }) (record { from = refl; to = refl; alive = refl; lf = refl; cr = refl })
+
+standard-two-pads : (g : Grammar) → OnPads g (Standard standard.Data) 2 (Standard standard.Final)
+standard-two-pads g =
+    two-pads {a = Standard standard.OnePad} {b = Standard standard.Ending} (record { from = refl; to = refl; alive = refl; takes = refl }) (record { from = refl; to = refl; alive = refl; takes = refl })
+    (record { from = refl; to = refl; alive = refl; lf = refl; cr = refl })
+
+strict-one-pad : (g : Grammar) (room : ℕ) → room % 4 ≡ 1 → OnPads g (Strict (strict.Data room)) 1 (Strict strict.Final)
+strict-one-pad g room e =
+    one-pad {p = Strict (strict.Data room)} {a = Strict strict.Padded} (record { from = refl; to = refl; alive = refl; takes = rw e }) (record { from = refl; to = refl; alive = refl; lf = refl; cr = refl })
+
+strict-two-pads : (g : Grammar) (room : ℕ) → room % 4 ≡ 2 → OnPads g (Strict (strict.Data room)) 2 (Strict strict.Final)
+strict-two-pads g room e =
+    two-pads {p = Strict (strict.Data room)} {a = Strict strict.OnePad} {b = Strict strict.Padded} (record { from = refl; to = refl; alive = refl; takes = rw e }) (record { from = refl; to = refl; alive = refl; takes = refl })
+    (record { from = refl; to = refl; alive = refl; lf = refl; cr = refl })
+
+-- One pad or two.
+one-or-two : (P : ℕ → Type 0) → P 1 → P 2 → (n : ℕ) → 0 < n → n ≤ 2 → P n
+one-or-two P p q n some few = go (eqb n 1) refl
+  where
+    go : (b : Bool) → eqb n 1 ≡ b → P n
+    go true e = rw (eqb-true n 1 e) p
+    go false e = let other : n ≢ 1 = eqb-false n 1 e in let two : n ≡ 2 = omega arith in rw two q
+
+pub standard-pads : (g : Grammar) (n : ℕ) → 0 < n → n ≤ 2 → OnPads g (Standard standard.Data) n (Standard standard.Final)
+standard-pads g = one-or-two (λ n. OnPads g (Standard standard.Data) n (Standard standard.Final)) (standard-one-pad g) (standard-two-pads g)
+
+pub strict-pads : (g : Grammar) (room n : ℕ) → 0 < n → n ≤ 2 → room % 4 ≡ n → OnPads g (Strict (strict.Data room)) n (Strict strict.Final)
+strict-pads g room = one-or-two (λ n. room % 4 ≡ n → OnPads g (Strict (strict.Data room)) n (Strict strict.Final)) (strict-one-pad g room) (strict-two-pads g room)
 
 -- ---- The three grammars: the phases in which a character stays in phases of one kind
 

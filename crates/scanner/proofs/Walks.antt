@@ -187,7 +187,7 @@ behind-countable text s t q {i} {j} {k} {m} h l r e = rw e (go (eqb k 0))
   where
     go : (z : Bool) → let b = cond z (positionAt i s t) (positionAt j (state q false) (linesTallied i j k m t)) in Countable text (b .tally) (b .at)
     go true = h
-    go false = (l .inside, omega (arith, h, l .inside, l .forward), omega (arith, h, l .inside, l .forward, l .few), omega (arith, h, l .inside, l .forward), omega (arith, h, l .inside, l .forward))
+    go false = (l .inside, omega (arith, h, l .inside, l .forward), omega (arith, h, l .inside, l .forward, l .few), omega (arith, h, l .inside, l .forward), omega (arith, h, l .inside, l .forward), omega (arith, h, l .inside, l .forward))
 
 -- The phase behind them is one in which a line begins again.
 pub behind-phase : (s : State) (t : Tally) (q : Phase) (i j k m : ℕ) (r : Position) → r ≡ behindLines i s t q j k m → (r .state .phase ≡ s .phase) ⊎ (r .state .phase ≡ q)

@@ -5,6 +5,7 @@ use mathlib.Core.List.{List}
 use Prim.Native.Nat.{ℕ, _+_, _-_, _*_, _≤_, _<_, _^_}
 use lib.Dec.{eqb}
 use lib.ListN.{length, drop}
+use Rattle.base64.specs.Alphabet.{pad}
 use Rattle.grammar.specs.Marks.{HT, SP, CR, LF, hyphen}
 use Rattle.grammar.specs.declared.Grammar.{Grammar}
 use Rattle.machine.proofs.Machine.{state, next, partOf, dead, labelRow}
@@ -53,6 +54,7 @@ Countable text t i =
     × (t .characters + (length text - i) < 2 ^ 64)
     × (t .opening + (length text - i) < 2 ^ 64)
     × (t .closing + (length text - i) < 2 ^ 64)
+    × (t .pads + (length text - i) < 2 ^ 64)
 
 -- ---- Tallies of runs
 
@@ -63,6 +65,10 @@ runTallied n t = tally (t .before) (t .opening) (t .body + n) (t .closing) (t .c
 -- So many bytes of a body that are neither characters nor pads, counted.
 abbrev pub othersTallied : ℕ → Tally → Tally
 othersTallied n t = tally (t .before) (t .opening) (t .body + n) (t .closing) (t .characters) (t .pads) (t .last)
+
+-- So many pads of a body, counted.
+abbrev pub padsTallied : ℕ → Tally → Tally
+padsTallied n t = tally (t .before) (t .opening) (t .body + n) (t .closing) (t .characters) (t .pads + n) (t .last)
 
 -- Lines of so many groups from i up to j, of which the last one's characters end at m, counted.
 abbrev pub linesTallied : ℕ → ℕ → ℕ → ℕ → Tally → Tally
@@ -112,6 +118,18 @@ pub record OnBlank (g : Grammar) (p q : Phase) : Type 0 where
   pub alive : dead q ≡ false
   pub ht : next g p HT ≡ q
   pub sp : next g p SP ≡ q
+
+-- So does a pad.
+pub record OnPad (g : Grammar) (p q : Phase) : Type 0 where
+  pub from : partOf p ≡ part.Body
+  pub to : partOf q ≡ part.Body
+  pub alive : dead q ≡ false
+  pub takes : next g p pad ≡ q
+
+-- One or two pads and a line end lead from one phase to another.
+pub data OnPads (g : Grammar) : (p : Phase) (n : ℕ) (q : Phase) → Type 0 where
+  one-pad : {p a q : Phase} → OnPad g p a → OnLineEnd g a q → OnPads g p 1 q
+  two-pads : {p a b q : Phase} → OnPad g p a → OnPad g a b → OnLineEnd g b q → OnPads g p 2 q
 
 -- Phases in which lines of any length are read: where they begin, within a line, behind a line end, behind a blank; and whether
 -- characters may stand behind a blank.

@@ -8,10 +8,11 @@ ghost use Prim.Native.Nat.{_+_, _-_, _*_, _≤_, _<_, _^_};
 ghost use lib.ListN.{length, drop, getD};
 ghost use Rattle.grammar.specs.declared.Grammar.{Grammar};
 ghost use Rattle.grammar.specs.Marks.{LF, hyphen};
-ghost use Rattle.machine.proofs.Machine.{state, wordOf, behind, next, start};
+ghost use Rattle.machine.proofs.Machine.{state, wordOf, behind, next, start, dead};
 ghost use Rattle.machine.specs.declared.LabelPhase.{LabelPhase};
 ghost use Rattle.machine.specs.declared.Phase.{Phase};
-ghost use Rattle.machine.specs.declared.Phase.the-variants.{Strict, Word, Label};
+ghost use Rattle.machine.specs.declared.Phase.the-variants.{Lax, Strict, Word, Label};
+ghost use Rattle.machine.specs.declared.LaxPhase.the-variants as laxPhase;
 ghost use Rattle.machine.specs.declared.LabelPhase.the-variants.{Start};
 ghost use Rattle.machine.specs.declared.StrictPhase.the-variants.{Data};
 ghost use Rattle.reading.specs.Scan.{Roomy, noTally, bodyTallied, tallied, stopped, scanOf};
@@ -19,9 +20,10 @@ ghost use Rattle.reading.proofs.Scans.{Within};
 ghost use Rattle.decoder.specs.Tables.{groupTable};
 ghost use Rattle.runs.specs.Runs.{between};
 ghost use Rattle.decoder.specs.Decoding.{Decoded};
-ghost use Rattle.scanner.specs.Advances.{positionAt, Advanced, Stopped, Countable, OnCharacter, LinePhases, LinesFrom, LinesFit, Continues, Closes, runTallied, othersTallied, linesTallied, boundaryTallied, endedTallied, behindLines};
+ghost use Rattle.scanner.specs.Advances.{positionAt, Advanced, Stopped, Countable, OnCharacter, LinePhases, LinesFrom, LinesFit, OnPads, Continues, Closes, runTallied, othersTallied, padsTallied, linesTallied, boundaryTallied, endedTallied, behindLines};
 use base64::GROUP_BYTES;
 use base64::GROUP_CHARS;
+use base64::PAD;
 use grammar::BEGIN;
 use grammar::END;
 use grammar::Grammar;
@@ -93,6 +95,17 @@ fn tally_others(tally: Tally, n: usize) -> Tally
 {
     let mut next = tally;
     next.body = tally.body + n;
+    next
+}
+
+// Pads of a body, counted.
+fn tally_pads(tally: Tally, n: usize) -> Tally
+    requires { ⌜ (tally .body + n < 2 ^ 64) × (tally .pads + n < 2 ^ 64) ⌝ }
+    ensures { λ r. ⌜ r ≡ padsTallied n tally ⌝ }
+{
+    let mut next = tally;
+    next.body = tally.body + n;
+    next.pads = tally.pads + n;
     next
 }
 
@@ -627,13 +640,82 @@ fn advance_body(text: &[u8], at: usize, state: State, tally: Tally) -> Position
     }
 }
 
-// Behind the opening: the closing, or lines of the body.
+// Under lax both may stand behind any character.
+fn padded_lax(pads: usize) -> Phase
+    requires { ⌜ (0 < pads) × (pads ≤ 2) ⌝ }
+    ensures { λ r. ⌜ ((g : Grammar) → OnPads g (Lax laxPhase.Data) pads r) ⌝ }
+{
+    if pads == 1 {
+        return Phase::Lax(LaxPhase::OnePad);
+    }
+    Phase::Lax(LaxPhase::TwoPads)
+}
+
+// Under strict they fill the last group of a line that has room for so many characters more.
+fn padded_strict(room: u8, pads: usize) -> Phase
+    requires { ⌜ (0 < pads) × (pads ≤ 2) ⌝ }
+    ensures { λ r. ⌜ (dead r ≡ false → (g : Grammar) → OnPads g (Strict (Data room)) pads r) ⌝ }
+{
+    if (room % 4) as usize != pads {
+        return Phase::Dead;
+    }
+    Phase::Strict(StrictPhase::Final)
+}
+
+// The phase behind one or two pads and a line end; dead where they may not stand.
+fn padded(phase: Phase, pads: usize) -> Phase
+    requires { ⌜ (0 < pads) × (pads ≤ 2) ⌝ }
+    ensures { λ r. ⌜ (dead r ≡ false → (g : Grammar) → OnPads g phase pads r) ⌝ }
+{
+    match phase {
+        Phase::Lax(lax) => match lax {
+            LaxPhase::Data => padded_lax(pads),
+            _ => Phase::Dead,
+        },
+        Phase::Standard(standard) => match standard {
+            StandardPhase::Data => Phase::Standard(StandardPhase::Final),
+            _ => Phase::Dead,
+        },
+        Phase::Strict(strict) => match strict {
+            StrictPhase::Data(room) => padded_strict(room, pads),
+            _ => Phase::Dead,
+        },
+        _ => Phase::Dead,
+    }
+}
+
+// Pads and a line end behind them, which end the data of most messages.
+fn advance_pads(text: &[u8], at: usize, state: State, tally: Tally) -> Position
+    requires { ⌜ Countable (now text) tally at ⌝ }
+    ensures { λ r. ⌜ ((g : Grammar) → Advanced g (now (text .entry)) state tally at (r .state) (r .tally) (r .at)) ⌝ }
+{
+    let pads = runs::pads_at(text, at);
+    if pads == 0 {
+        return stay(text, at, state, tally);
+    }
+    let width = runs::line_end_at(text, at + pads);
+    if width == 0 {
+        return stay(text, at, state, tally);
+    }
+    let phase = state.phase;
+    let next = padded(phase, pads);
+    if engine::is_dead(next) {
+        return stay(text, at, state, tally);
+    }
+    let counted = tally_others(tally_pads(tally, pads), width);
+    at_phase(at + pads + width, next, counted)
+}
+
+// Behind the opening: the closing, pads, or lines of the body.
 fn advance_inside(text: &[u8], at: usize, grammar: Grammar, state: State, tally: Tally) -> Position
     requires { ⌜ Countable (now text) tally at × (at < length (now text)) ⌝ }
     ensures { λ r. ⌜ Advanced grammar (now (text .entry)) state tally at (r .state) (r .tally) (r .at) ⌝ }
 {
     if text[at] == HYPHEN {
         return advance_closing(text, at, grammar, state, tally);
+    }
+    if text[at] == PAD {
+        return advance_pads(text, at, state, tally);
     }
     advance_body(text, at, state, tally)
 }
