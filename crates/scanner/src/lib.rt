@@ -720,14 +720,11 @@ fn advance_inside(text: &[u8], at: usize, grammar: Grammar, state: State, tally:
     advance_body(text, at, state, tally)
 }
 
-// The run that stands at a place, if the phase has one. None begins with white, where the search for one would be in vain.
+// The run that stands at a place, if the phase has one.
 fn advance_run(text: &[u8], at: usize, grammar: Grammar, state: State, tally: Tally) -> Position
     requires { ⌜ Countable (now text) tally at × (at < length (now text)) ⌝ }
     ensures { λ r. ⌜ Advanced grammar (now (text .entry)) state tally at (r .state) (r .tally) (r .at) ⌝ }
 {
-    if text[at] <= SP {
-        return stay(text, at, state, tally);
-    }
     let phase = state.phase;
     match phase {
         Phase::Word(boundary, read) => advance_boundary(
@@ -746,6 +743,40 @@ fn advance_run(text: &[u8], at: usize, grammar: Grammar, state: State, tally: Ta
         },
         _ => advance_inside(text, at, grammar, state, tally),
     }
+}
+
+// The next byte, by the machine's step; none where the machine dies of it.
+fn advance_byte(text: &[u8], at: usize, grammar: Grammar, state: State, tally: Tally) -> Position
+    requires { ⌜ (at < length (now text)) × Within tally at ⌝ }
+    ensures { λ r. ⌜ Advanced grammar (now (text .entry)) state tally at (r .state) (r .tally) (r .at) × (r .at ≡ at → Stopped grammar (now (text .entry)) state tally at) ⌝ }
+{
+    let b = text[at];
+    let next = engine::step(state, grammar, b);
+    let before = state.phase;
+    let after = next.phase;
+    if engine::is_dead(after) {
+        return Position { at, state, tally };
+    }
+    let part = engine::byte_part(engine::part_of(before), engine::part_of(after));
+    Position {
+        at: at + 1,
+        state: next,
+        tally: tally_byte(tally, part, engine::kind_of(b)),
+    }
+}
+
+// The next run or, where there is none, the next byte. No run begins with white, where the search for one would be in vain.
+fn advance(text: &[u8], at: usize, grammar: Grammar, state: State, tally: Tally) -> Position
+    requires { ⌜ (at < length (now text)) × Within tally at ⌝ }
+    ensures { λ r. ⌜ Advanced grammar (now (text .entry)) state tally at (r .state) (r .tally) (r .at) × (r .at ≡ at → Stopped grammar (now (text .entry)) state tally at) ⌝ }
+{
+    if SP < text[at] {
+        let run = advance_run(text, at, grammar, state, tally);
+        if at < run.at {
+            return run;
+        }
+    }
+    advance_byte(text, at, grammar, state, tally)
 }
 
 // Whether a scan is to stop before a byte: it was asked to at the body's first line, and that begins here. White may stand before
@@ -790,32 +821,20 @@ fn scan_on(
                 tally,
             };
         }
-        let run = advance_run(text, i, grammar, state, tally);
-        let at = run.at;
-        if i < at {
-            let reached = run.state;
-            let counted = run.tally;
-            i = at;
-            state = reached;
-            tally = counted;
-        } else {
-            let next = engine::step(state, grammar, b);
-            let after = next.phase;
-            if engine::is_dead(after) {
-                return Position {
-                    at: i,
-                    state,
-                    tally,
-                };
-            }
-            tally = tally_byte(
+        let next = advance(text, i, grammar, state, tally);
+        let at = next.at;
+        if at == i {
+            return Position {
+                at: i,
+                state,
                 tally,
-                engine::byte_part(engine::part_of(phase), engine::part_of(after)),
-                engine::kind_of(b),
-            );
-            state = next;
-            i += 1;
+            };
         }
+        let reached = next.state;
+        let told = next.tally;
+        i = at;
+        state = reached;
+        tally = told;
     }
     Position {
         at: i,
