@@ -180,66 +180,14 @@ fn run_of_ones(table: &[u32; 1024], text: &[u8], from: usize, out: &mut [u8], to
     groups
 }
 
-// Sixteen groups, or none; none are tried where that is not asked.
-fn run_of_sixteen(
-    table: &[u32; 1024],
-    text: &[u8],
-    from: usize,
-    out: &mut [u8],
-    to: usize,
-    asked: bool,
-) -> usize
+// The groups that stand side by side from a place on, decoded; how many they are.
+fn put_run(table: &[u32; 1024], text: &[u8], from: usize, out: &mut [u8], to: usize) -> usize
     requires { ⌜ (now table ≡ groupTable) × (from ≤ length (now text)) × (to ≤ length (now out)) ⌝ }
     ensures { λ r. ⌜ Put (now (text .entry)) (now (out .entry)) (now (out .exit)) to from r 0 ⌝ }
 {
-    if !asked {
-        return 0;
-    }
-    if text.len() - from < LINE_CHARS {
-        return 0;
-    }
-    if out.len() - to <= LINE_BYTES {
-        return 0;
-    }
-    if WIDE_MARK <= put_sixteen_groups(table, text, from, out, to) {
-        return 0;
-    }
-    16
-}
-
-// Whether the run of characters goes on at a place.
-fn goes_on(table: &[u32; 1024], text: &[u8], at: usize) -> bool
-    requires { ⌜ now table ≡ groupTable ⌝ }
-    ensures { λ r. ⌜ (r ≡ true → at < length (now (text .entry))) ⌝ }
-{
-    if text.len() <= at {
-        return false;
-    }
-    !is_outside(table, text[at])
-}
-
-// The groups that stand side by side from a place on, decoded; how many they are. Sixteen at once are tried where lines are
-// `long`: they are written in vain where fewer stand there.
-fn put_run(
-    table: &[u32; 1024],
-    text: &[u8],
-    from: usize,
-    out: &mut [u8],
-    to: usize,
-    long: bool,
-) -> usize
-    requires { ⌜ (now table ≡ groupTable) × (from ≤ length (now text)) × (to ≤ length (now out)) ⌝ }
-    ensures { λ r. ⌜ Put (now (text .entry)) (now (out .entry)) (now (out .exit)) to from r 0 ⌝ }
-{
-    let groups = run_of_sixteen(table, text, from, out, to, long);
-    let i = from + 4 * groups;
-    let at = to + 3 * groups;
-    if !goes_on(table, text, i) {
-        return groups;
-    }
-    let fours = run_of_fours(table, text, i, out, at);
-    let ones = run_of_ones(table, text, i + 4 * fours, out, at + 3 * fours);
-    groups + fours + ones
+    let fours = run_of_fours(table, text, from, out, to);
+    let ones = run_of_ones(table, text, from + 4 * fours, out, to + 3 * fours);
+    fours + ones
 }
 
 // Decodes the full lines that stand at a place: whether they are characters of the alphabet is told by the sums of their groups.
@@ -279,9 +227,8 @@ pub fn put_lines(table: &[u32; 1024], text: &[u8], from: usize, out: &mut [u8]) 
     let mut end = full.end;
     let mut groups = full.groups;
     let mut last = full.last;
-    let mut long = true;
     while end < text.len() {
-        let more = put_run(table, text, end, out, 3 * groups, long);
+        let more = put_run(table, text, end, out, 3 * groups);
         let characters = end + 4 * more;
         let blanks = runs::blanks_end(text, characters);
         let width = runs::line_end_at(text, blanks);
@@ -294,7 +241,6 @@ pub fn put_lines(table: &[u32; 1024], text: &[u8], from: usize, out: &mut [u8]) 
         last = characters;
         end = blanks + width;
         groups += more;
-        long = LINE_GROUPS <= more;
     }
     Lines { end, groups, last }
 }
@@ -370,19 +316,12 @@ struct Progress {
 }
 
 // Decodes the groups that stand side by side behind bytes outside the alphabet.
-fn put_blocks(
-    table: &[u32; 1024],
-    body: &[u8],
-    from: usize,
-    out: &mut [u8],
-    to: usize,
-    long: bool,
-) -> Progress
+fn put_blocks(table: &[u32; 1024], body: &[u8], from: usize, out: &mut [u8], to: usize) -> Progress
     requires { ⌜ (now table ≡ groupTable) × (from ≤ length (now body)) × Decoding (now body) (now out) Start to from ⌝ }
     ensures { λ r. ⌜ (to ≤ r .written) × Further (now (body .entry)) (now (out .entry)) (now (out .exit)) from (r .written) (r .read) ⌝ }
 {
     let start = skip_outside(table, body, from);
-    let groups = put_run(table, body, start, out, to, long);
+    let groups = put_run(table, body, start, out, to);
     Progress {
         read: start + 4 * groups,
         written: to + 3 * groups,
@@ -394,9 +333,7 @@ pub fn put_data(table: &[u32; 1024], body: &[u8], from: usize, out: &mut [u8], t
     requires { ⌜ (now table ≡ groupTable) × (from ≤ length (now body)) × Decoding (now body) (now out) Start to from ⌝ }
     ensures { λ _. ⌜ now (out .exit) ≡ decode (characters (now (body .entry))) ++ replicate (length (now (out .entry)) - length (decode (characters (now (body .entry))))) 0 ⌝ }
 {
-    let first = put_blocks(table, body, from, out, to, true);
-    // A run that is as long as a full line is likely to be followed by another.
-    let mut long = LINE_BYTES <= first.written - to;
+    let first = put_blocks(table, body, from, out, to);
     let mut group = Open::Start;
     let mut written = first.written;
     let mut i = first.read;
@@ -406,10 +343,9 @@ pub fn put_data(table: &[u32; 1024], body: &[u8], from: usize, out: &mut [u8], t
         match group {
             Open::Start => {
                 let before = step.written;
-                let blocks = put_blocks(table, body, i + 1, out, before, long);
+                let blocks = put_blocks(table, body, i + 1, out, before);
                 i = blocks.read;
                 written = blocks.written;
-                long = LINE_BYTES <= written - before;
             }
             _ => {
                 i += 1;

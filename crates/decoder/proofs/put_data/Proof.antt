@@ -11,20 +11,17 @@ use Rattle.decoder.proofs.put_data.Statement.{statement}
 use Rattle.decoder.proofs.put_data.Tie as tie
 
 abbrev Inv-loop : tie.InvT-loop
-Inv-loop table body from out₀ to long₀ group₀ written₀ i₀ out long group written i = (i ≤ length body) × (length out ≡ length out₀) × Decoding body out group written i
+Inv-loop table body from out₀ to group₀ written₀ i₀ out group written i = (i ≤ length body) × (length out ≡ length out₀) × Decoding body out group written i
 
 abbrev μ-loop : tie.MeasureT-loop
-μ-loop table body from out₀ to long₀ group₀ written₀ i₀ out long group written i = length body - i
+μ-loop table body from out₀ to group₀ written₀ i₀ out group written i = length body - i
 
 put-blocks-requires : tie.Need-put-blocks-requires Inv-loop μ-loop
 put-blocks-requires c κs = search needs
 
-sub-long : tie.Need-sub-long Inv-loop μ-loop
-sub-long c = c .before .before .before .put-blocks .ensures .0
-
 loop-holds : tie.Need-loop-holds Inv-loop μ-loop
 loop-holds c =
-    let put = c .before .before .before .put-blocks .ensures .1 in
+    let put = c .before .before .put-blocks .ensures .1 in
     (put .inside, refl, put .reached)
 
 put-byte-requires : tie.Need-put-byte-requires Inv-loop μ-loop
@@ -38,13 +35,10 @@ add-put-blocks c = search needs
 
 put-blocks-requires-2 : tie.Need-put-blocks-requires-2 Inv-loop μ-loop
 put-blocks-requires-2 c κs =
-    let start = c .before .before .before .before .before .before .before .before .before .before .before .before .before .before .before .before in
+    let start = c .before .before .before .before .before .before .before .before .before .before .before .before .before .before .before in
     let step = c .before .before .before .before .before .put-byte in
     let e : step .result .group ≡ Start = cc in
     (start .pre .0, omega arith, rw e at (step .ensures .1))
-
-sub-long-2 : tie.Need-sub-long-2 Inv-loop μ-loop
-sub-long-2 c = c .before .before .put-blocks2 .ensures .0
 
 loop-less : tie.Need-loop-less Inv-loop μ-loop
 loop-less c = omega (arith, c .before .before .put-blocks2 .ensures .1)
@@ -79,7 +73,7 @@ returns : tie.Need-returns Inv-loop μ-loop
 returns c =
     let inv = c .before .before .before .before .before .loop .inv in
     let end = decoding-end (inv .2) (c .before .before .before .before .loop-test .left) in
-    let size = inv .1 ∙ c .before .before .before .before .before .before .before .before .before .put-blocks .ensures .1 .size in
+    let size = inv .1 ∙ c .before .before .before .before .before .before .before .before .put-blocks .ensures .1 .size in
     c .before .before .clear-from .ensures ∙ rw (end .1, end .0, size)
 
 pub put-data-spec : {M : Type 1} → statement M
@@ -89,13 +83,11 @@ put-data-spec =
     Inv-loop
     μ-loop
     put-blocks-requires
-    sub-long
     loop-holds
     put-byte-requires
     enum-told
     add-put-blocks
     put-blocks-requires-2
-    sub-long-2
     loop-less
     loop-again
     add-i

@@ -13,11 +13,11 @@ use Rattle.decoder.proofs.put_lines.Statement.{statement}
 use Rattle.decoder.proofs.put_lines.Tie as tie
 
 abbrev Inv-loop : tie.InvT-loop
-Inv-loop table text from out₀ end₀ groups₀ last₀ long₀ out end groups last long =
+Inv-loop table text from out₀ end₀ groups₀ last₀ out end groups last =
     DecodedLines text false out₀ out from end groups last × LinesInside text from end groups last
 
 abbrev μ-loop : tie.MeasureT-loop
-μ-loop table text from out₀ end₀ groups₀ last₀ long₀ out end groups last long = length text - end
+μ-loop table text from out₀ end₀ groups₀ last₀ out end groups last = length text - end
 
 put-full-lines-requires : tie.Need-put-full-lines-requires Inv-loop μ-loop
 put-full-lines-requires c κs = search needs
