@@ -68,19 +68,6 @@ pub bytes-number : (a b c d : ℕ) → Sextet b → Sextet c
     → (byte1 a b * 256 + byte2 b c) * 256 + byte3 c d ≡ ((a * 64 + b) * 64 + c) * 64 + d
 bytes-number a b c d hb hc = omega arith
 
--- The four values of three bytes from that number.
-pub number-value1 : (x y z n : ℕ) → Octet x → Octet y → Octet z → n ≡ x * 65536 + y * 256 + z → n / 262144 % 64 ≡ value1 x
-number-value1 x y z n hx hy hz e = omega arith
-
-pub number-value2 : (x y z n : ℕ) → Octet y → Octet z → n ≡ x * 65536 + y * 256 + z → n / 4096 % 64 ≡ value2 x y
-number-value2 x y z n hy hz e = omega arith
-
-pub number-value3 : (x y z n : ℕ) → Octet z → n ≡ x * 65536 + y * 256 + z → n / 64 % 64 ≡ value3 y z
-number-value3 x y z n hz e = omega arith
-
-pub number-value4 : (x y z n : ℕ) → n ≡ x * 65536 + y * 256 + z → n % 64 ≡ value4 z
-number-value4 x y z n e = omega arith
-
 -- ---- decoding inverts encoding
 
 byte1-back : (x y : ℕ) → Octet y → byte1 (value1 x) (value2 x y) ≡ x

@@ -1,10 +1,10 @@
--- Lists whose elements are all of one kind. Assumes nothing.
-use mathlib.Core.Path.{_≡_, refl}
+-- Lists whose elements are all of one kind, and the entries of a table. Assumes nothing.
+use mathlib.Core.Path.{_≡_, refl, ap, _∙_}
 use mathlib.Core.List.{List, [], _∷_, _++_, map}
-use Prim.Native.Nat.{ℕ, zero, suc, _<_}
+use Prim.Native.Nat.{ℕ, zero, suc, _+_, _<_}
 use native.Mathlib.Omega.{arith}
 use lib.ListN.{length, getD}
-use Rattle.base64.specs.Lists.{All}
+use Rattle.base64.specs.Lists.{All, entries}
 
 pub all-append : {A : Type 0} (P : A → Type 0) (a b : List A) → All P a → All P b → All P (a ++ b)
 all-append P [] b ha hb = hb
@@ -43,3 +43,9 @@ all-at P (x ∷ l) z h (suc i) k = all-at P l z (h .1) i (omega arith)
 pub at-all : {A : Type 0} (P : A → Type 0) (l : List A) (z : A) → ((i : ℕ) → i < length l → P (getD l i z)) → All P l
 at-all P [] z f = tt
 at-all P (x ∷ l) z f = (f 0 (omega arith), at-all P l z (λ i k. f (suc i) (omega arith)))
+
+-- The entry at a place.
+pub entries-at : (f : ℕ → ℕ) (n c k : ℕ) → k < n → getD (entries f c n) k 0 ≡ f (c + k)
+entries-at f zero c k h = absurd (omega arith)
+entries-at f (suc n) c zero h = let here : c ≡ c + 0 = omega arith in ap f here
+entries-at f (suc n) c (suc k) h = let next : suc c + k ≡ c + suc k = omega arith in entries-at f n (suc c) k (omega arith) ∙ ap f next

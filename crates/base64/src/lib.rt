@@ -18,13 +18,13 @@ pub const GROUP_BYTES: usize = 3;
 const ALPHABET: [u8; 64] = *b"ABCDEFGHIJKLMNOPQRSTUVWXYZabcdefghijklmnopqrstuvwxyz0123456789+/";
 
 // The values of `a`, `0`, `+` and `/`; that of `A` is 0.
-const LOWER_A: u8 = 26;
+pub const LOWER_A: u8 = 26;
 
-const DIGIT_0: u8 = 52;
+pub const DIGIT_0: u8 = 52;
 
-const PLUS: u8 = 62;
+pub const PLUS: u8 = 62;
 
-const SLASH: u8 = 63;
+pub const SLASH: u8 = 63;
 
 // What a byte stands for in base 64 text.
 pub enum Value {
@@ -136,24 +136,11 @@ pub fn bytes_of_two(a: u8, b: u8) -> OneByte
     }
 }
 
-// The same number in more bits.
-fn wide(x: u8) -> u64
-    ensures { λ r. ⌜ r ≡ x ⌝ }
-{
-    x as u64
-}
-
-// Three bytes: four values. They are one number of 24 bits.
+// Three bytes: four values.
 pub fn values_of_three(x: u8, y: u8, z: u8) -> [u8; 4]
     ensures { λ r. ⌜ r ≡ toValues (x ∷ y ∷ z ∷ []) ⌝ }
 {
-    let n = wide(x) * 65536 + wide(y) * 256 + wide(z);
-    [
-        (n / 262144 % 64) as u8,
-        (n / 4096 % 64) as u8,
-        (n / 64 % 64) as u8,
-        (n % 64) as u8,
-    ]
+    [x / 4, x % 4 * 16 + y / 16, y % 16 * 4 + z / 64, z % 64]
 }
 
 // Two bytes: three values.

@@ -8,13 +8,9 @@ use lib.ListN.{getD}
 use borrow.Author.Tests.{ltb-true}
 use Rattle.base64.specs.Alphabet.{radix, valueOf, AlphabetChar}
 use Rattle.base64.specs.Groups.{byte1, byte2, byte3}
+use Rattle.base64.proofs.Lists.{entries-at}
 use Rattle.runs.specs.Runs.{NoCharacter}
-use Rattle.decoder.specs.Tables.{mark, placed, marked, entries, groupTable, groupNumber}
-
-entries-at : (f : ℕ → ℕ) (n c k : ℕ) → k < n → getD (entries f c n) k 0 ≡ f (c + k)
-entries-at f zero c k h = absurd (omega arith)
-entries-at f (suc n) c zero h = let here : c ≡ c + 0 = omega arith in ap f here
-entries-at f (suc n) c (suc k) h = let next : suc c + k ≡ c + suc k = omega arith in entries-at f n (suc c) k (omega arith) ∙ ap f next
+use Rattle.decoder.specs.Tables.{mark, placed, marked, groupTable, groupNumber}
 
 -- The entry of a byte, from the first of its place on.
 pub table-rule : (first c : ℕ) → first + 256 ≤ 1024 → first % 256 ≡ 0 → c < 256 → getD groupTable (first + c) 0 ≡ marked (first / 256) c

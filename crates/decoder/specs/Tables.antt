@@ -1,10 +1,11 @@
 -- The table by which groups are decoded: for each place in a group and each byte what it adds to the group's number, or a mark
 -- where the byte is outside the alphabet. Assumes nothing.
 use mathlib.Core.Bool.{cond}
-use mathlib.Core.List.{List, [], _∷_}
+use mathlib.Core.List.{List}
 use Prim.Native.Nat.{ℕ, zero, suc, _+_, _*_, _/_, _%_}
 use lib.Dec.{ltb}
 use lib.ListN.{getD}
+use Rattle.base64.specs.Lists.{entries}
 use Rattle.base64.specs.Alphabet.{radix, valueOf}
 
 -- More than the numbers of sixteen groups together.
@@ -22,11 +23,6 @@ placed (suc (suc (suc p))) v = v * 65536
 -- What a byte adds at a place, or the mark.
 abbrev pub marked : ℕ → ℕ → ℕ
 marked p c = cond (ltb (valueOf c) radix) (placed p (valueOf c)) mark
-
--- The n entries of a table from the number k on.
-abbrev pub entries : (ℕ → ℕ) → ℕ → ℕ → List ℕ
-entries f k zero = []
-entries f k (suc n) = f k ∷ entries f (suc k) n
 
 unfoldable pub groupTable : List ℕ
 groupTable = entries (λ k. marked (k / 256) (k % 256)) 0 1024

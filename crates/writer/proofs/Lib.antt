@@ -1,1 +1,3 @@
--- The functions meet their contracts. Assumes nothing.
+-- Facts about the files of specs/, under the same names, and the functions meet their contracts. Assumes nothing.
+pub mod Tables
+pub mod Values

@@ -1,10 +1,10 @@
 // Writing one message: the checks 11 to 14 and 10, and the strict text with LF line ends.
-// The definitions that the contracts cite stand in the crate `writing`.
+// The definitions that the contracts cite stand in the crate `writing`, and those for the steps to a full line in specs/.
 ghost use mathlib.Core.Path.{_≡_};
 ghost use mathlib.Core.List.{_++_};
-ghost use Prim.Native.Nat.{_+_, _-_, _≤_, _<_};
+ghost use Prim.Native.Nat.{_+_, _-_, _*_, _/_, _%_, _≤_, _<_};
 ghost use lib.ListN.{length, replicate};
-ghost use Rattle.base64.specs.Alphabet.{alphabet};
+ghost use Rattle.base64.specs.Alphabet.{Sextet, alphabet, charOf};
 ghost use Rattle.base64.specs.Groups.{encode};
 ghost use Rattle.machine.proofs.Machine.{labelEnds};
 ghost use Rattle.reading.specs.Limits.{labelLimit};
@@ -13,10 +13,16 @@ ghost use Rattle.writing.specs.Answers.{numberOf};
 ghost use Rattle.writing.specs.Text.{lineEnd, inLines, writtenLines, writtenText, writtenSize};
 ghost use Rattle.writing.specs.Meaning.{Writes};
 ghost use Rattle.writing.specs.Write.{isLabel, judgeOf, writeOf, writeOutput};
-ghost use Rattle.writing.proofs.Placed.{Put};
-ghost use Rattle.writing.proofs.Progress.{groupChars, WholeGroups, lineBreak, roomThen, groupText, boundaryLine, Wrote};
+ghost use Rattle.writing.proofs.Placed.{placed, Put};
+ghost use Rattle.writing.proofs.Progress.{groupChars, WholeGroups, lineBreak, roomThen, groupText, boundaryLine, Lined, Wrote};
+ghost use Rattle.writer.specs.Tables.{spread, valuesTable, numberAt};
+ghost use Rattle.writer.specs.Values.{Valued, stepFrom, lowChars};
+use base64::DIGIT_0;
 use base64::GROUP_BYTES;
 use base64::GROUP_CHARS;
+use base64::LOWER_A;
+use base64::PLUS;
+use base64::SLASH;
 use grammar::BEGIN;
 use grammar::END;
 use grammar::HYPHENS;
@@ -32,6 +38,8 @@ use writing::TextSize;
 use writing::WriteAnswer;
 use writing::WriteRefusal;
 
+mod groups;
+
 // The longest data that is written, in bytes.
 pub const DATA_LIMIT: usize = 8388608;
 
@@ -39,6 +47,27 @@ pub const DATA_LIMIT: usize = 8388608;
 const FOUR_CHARS: usize = 4 * GROUP_CHARS;
 
 const FOUR_BYTES: usize = 4 * GROUP_BYTES;
+
+// From so many bytes on full lines go by the table: for fewer it takes longer than it spares.
+const TABLE_BYTES: usize = 4 * LINE_BYTES;
+
+// Where the entries of a group's second and third byte begin.
+const SECOND: usize = 256;
+
+const THIRD: usize = 512;
+
+// How many values there are.
+const RADIX: u8 = 64;
+
+// Where the alphabet goes on with another run, its characters are further on by so much, or further back: on at `a`, back at `0`
+// and at `+`, and on at `/`.
+const TO_LOWER: u8 = b'a' - b'A' - LOWER_A;
+
+const TO_DIGITS: u8 = b'a' - LOWER_A + DIGIT_0 - b'0';
+
+const TO_PLUS: u8 = b'0' + PLUS - DIGIT_0 - b'+';
+
+const TO_SLASH: u8 = b'/' + PLUS - SLASH - b'+';
 
 // What a text has beside labels, characters and their line ends: the rest of its boundaries, and the line ends of these.
 const FRAME: usize = 32;
@@ -206,39 +235,140 @@ fn put_last_line(table: &[u8; 64], rest: &[u8], out: &mut [u8], at: usize, room:
     put_end(out, at)
 }
 
-// Writes a group of three bytes within a line. It has its own stores: an array of four lent to a function costs a tenth.
-fn put_whole_group(table: &[u8; 64], content: &[u8], i: usize, out: &mut [u8], at: usize)
-    requires { ⌜ (now table ≡ alphabet) × (i + 3 ≤ length (now content)) × (at + 4 ≤ length (now out)) ⌝ }
-    ensures { λ _. ⌜ Wrote (now (content .entry)) (now (out .entry)) (now (out .exit)) at i 1 ⌝ }
+// The table of what each byte adds to the number of its group's values.
+fn values_table() -> [u32; 768]
+    ensures { λ r. ⌜ r ≡ valuesTable ⌝ }
 {
-    let group = base64::encode_three(table, content[i], content[i + 1], content[i + 2]);
-    out[at] = group[0];
-    out[at + 1] = group[1];
-    out[at + 2] = group[2];
-    out[at + 3] = group[3];
+    groups::TABLE
 }
 
-// Writes four groups within a line.
-fn put_four_groups(table: &[u8; 64], content: &[u8], i: usize, out: &mut [u8], at: usize)
-    requires { ⌜ (now table ≡ alphabet) × (i + 12 ≤ length (now content)) × (at + 16 ≤ length (now out)) ⌝ }
-    ensures { λ _. ⌜ Wrote (now (content .entry)) (now (out .entry)) (now (out .exit)) at i 4 ⌝ }
+// The entry of a byte for one of the three places in a group.
+fn entry_in(table: &[u32; 768], first: usize, x: u8) -> u32
+    requires { ⌜ (now table ≡ valuesTable) × (first + 256 ≤ 768) × (first % 256 ≡ 0) ⌝ }
+    ensures { λ r. ⌜ (r ≡ spread (first / 256) x) × (r ≤ 1073741824) ⌝ }
 {
-    put_whole_group(table, content, i, out, at);
-    put_whole_group(table, content, i + 3, out, at + 4);
-    put_whole_group(table, content, i + 6, out, at + 8);
-    put_whole_group(table, content, i + 9, out, at + 12);
+    table[first + x as usize]
 }
 
-// Writes the characters of a full line, in a loop: four calls in a row would not be made part of it.
-fn put_full_line(table: &[u8; 64], content: &[u8], i: usize, out: &mut [u8], at: usize)
-    requires { ⌜ (now table ≡ alphabet) × (i + 48 ≤ length (now content)) × (at + 64 ≤ length (now out)) ⌝ }
-    ensures { λ _. ⌜ Wrote (now (content .entry)) (now (out .entry)) (now (out .exit)) at i 16 ⌝ }
+// The number whose bytes are the four values of the group at a place, the first value lowest.
+fn values_number(table: &[u32; 768], content: &[u8], i: usize) -> u32
+    requires { ⌜ (now table ≡ valuesTable) × (i + 3 ≤ length (now content)) ⌝ }
+    ensures { λ r. ⌜ r ≡ numberAt (now (content .entry)) i ⌝ }
+{
+    let a = entry_in(table, 0, content[i]);
+    let b = entry_in(table, SECOND, content[i + 1]);
+    let c = entry_in(table, THIRD, content[i + 2]);
+    a + b + c
+}
+
+// Writes the four values of a group. A full line is written in two passes, first its values and then their characters: four values
+// are stored at once, and sixteen characters made at once.
+fn put_values(table: &[u32; 768], content: &[u8], i: usize, out: &mut [u8], at: usize)
+    requires { ⌜ (now table ≡ valuesTable) × (i + 3 ≤ length (now content)) × (at + 4 ≤ length (now out)) ⌝ }
+    ensures { λ _. ⌜ Valued (now (content .entry)) (now (out .entry)) (now (out .exit)) at i 1 ⌝ }
+{
+    let number = values_number(table, content, i);
+    output::put_number(out, at, number);
+}
+
+// Writes the values of four groups.
+fn put_four_values(table: &[u32; 768], content: &[u8], i: usize, out: &mut [u8], at: usize)
+    requires { ⌜ (now table ≡ valuesTable) × (i + 12 ≤ length (now content)) × (at + 16 ≤ length (now out)) ⌝ }
+    ensures { λ _. ⌜ Valued (now (content .entry)) (now (out .entry)) (now (out .exit)) at i 4 ⌝ }
+{
+    put_values(table, content, i, out, at);
+    put_values(table, content, i + 3, out, at + 4);
+    put_values(table, content, i + 6, out, at + 8);
+    put_values(table, content, i + 9, out, at + 12);
+}
+
+// Writes the values of a full line, in a loop: four calls in a row would not be made part of it.
+fn put_line_values(table: &[u32; 768], content: &[u8], i: usize, out: &mut [u8], at: usize)
+    requires { ⌜ (now table ≡ valuesTable) × (i + 48 ≤ length (now content)) × (at + 64 ≤ length (now out)) ⌝ }
+    ensures { λ _. ⌜ Valued (now (content .entry)) (now (out .entry)) (now (out .exit)) at i 16 ⌝ }
 {
     let mut q = 0;
     while q < LINE_CHARS / FOUR_CHARS {
-        put_four_groups(table, content, i + FOUR_BYTES * q, out, at + FOUR_CHARS * q);
+        put_four_values(table, content, i + FOUR_BYTES * q, out, at + FOUR_CHARS * q);
         q += 1;
     }
+}
+
+// A step of the alphabet, for a value that is not before its first.
+fn step_from(first: u8, value: u8, step: u8) -> u8
+    ensures { λ r. ⌜ r ≡ stepFrom first value step ⌝ }
+{
+    if first <= value { step } else { 0 }
+}
+
+// The character of a value, by sums: no table is read, so that many are made at once.
+fn character(value: u8) -> u8
+    requires { ⌜ Sextet value ⌝ }
+    ensures { λ r. ⌜ r ≡ charOf value ⌝ }
+{
+    value + b'A' + step_from(LOWER_A, value, TO_LOWER)
+        - step_from(DIGIT_0, value, TO_DIGITS)
+        - step_from(PLUS, value, TO_PLUS)
+        + step_from(SLASH, value, TO_SLASH)
+}
+
+// Makes characters of the values of a full line. The remainder changes none of them: it tells the compiler that they are small, which
+// spares a step for each comparison.
+fn put_line_chars(out: &mut [u8], at: usize)
+    requires { ⌜ at + 64 ≤ length (now out) ⌝ }
+    ensures { λ _. ⌜ now (out .exit) ≡ placed (now (out .entry)) at (lowChars (now (out .entry)) at) ⌝ }
+{
+    let mut k = 0;
+    while k < LINE_CHARS {
+        out[at + k] = character(out[at + k] % RADIX);
+        k += 1;
+    }
+}
+
+// Writes the characters of a full line.
+fn put_full_line(table: &[u32; 768], content: &[u8], i: usize, out: &mut [u8], at: usize)
+    requires { ⌜ (now table ≡ valuesTable) × (i + 48 ≤ length (now content)) × (at + 64 ≤ length (now out)) ⌝ }
+    ensures { λ _. ⌜ Wrote (now (content .entry)) (now (out .entry)) (now (out .exit)) at i 16 ⌝ }
+{
+    put_line_values(table, content, i, out, at);
+    put_line_chars(out, at);
+}
+
+// How many full lines go by the table.
+fn full_lines(content: usize) -> usize
+    ensures { λ r. ⌜ 48 * r ≤ content ⌝ }
+{
+    if content < TABLE_BYTES {
+        return 0;
+    }
+    content / LINE_BYTES
+}
+
+// Writes so many full lines of the data. The table is bound here, once for all of them, since a constant is stored anew wherever it
+// is named, and only where there are any.
+fn put_full_lines(content: &[u8], lines: usize, out: &mut [u8], from: usize) -> Cursor
+    requires { ⌜ (48 * lines ≤ length (now content)) × (from + length (writtenLines (now content)) ≤ length (now out)) ⌝ }
+    ensures { λ r. ⌜ Lined (now (content .entry)) (now (out .entry)) from (now (out .exit)) r (48 * lines) ⌝ }
+{
+    if lines == 0 {
+        return Cursor {
+            at: from,
+            room: LINE_CHARS,
+        };
+    }
+    let table = values_table();
+    let mut at = from;
+    let mut room = LINE_CHARS;
+    let mut n = 0;
+    while n < lines {
+        let cursor = break_line(out, at, room);
+        let start = cursor.at;
+        put_full_line(&table, content, LINE_BYTES * n, out, start);
+        at = start + LINE_CHARS;
+        room = 0;
+        n += 1;
+    }
+    Cursor { at, room }
 }
 
 // Writes the lines of the data.
@@ -246,17 +376,11 @@ fn put_lines(table: &[u8; 64], content: &[u8], out: &mut [u8], from: usize) -> u
     requires { ⌜ (now table ≡ alphabet) × (from + length (writtenLines (now content)) ≤ length (now out)) ⌝ }
     ensures { λ r. ⌜ Put (now (out .entry)) from (writtenLines (now (content .entry))) (now (out .exit)) r ⌝ }
 {
-    let mut at = from;
-    let mut room = LINE_CHARS;
-    let mut i = 0;
-    while LINE_BYTES <= content.len() - i {
-        let cursor = break_line(out, at, room);
-        let start = cursor.at;
-        put_full_line(table, content, i, out, start);
-        at = start + LINE_CHARS;
-        room = 0;
-        i += LINE_BYTES;
-    }
+    let lines = full_lines(content.len());
+    let cursor = put_full_lines(content, lines, out, from);
+    let mut at = cursor.at;
+    let mut room = cursor.room;
+    let mut i = LINE_BYTES * lines;
     while 2 < content.len() - i {
         let cursor = put_group(
             out,

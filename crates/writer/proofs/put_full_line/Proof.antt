@@ -1,76 +1,26 @@
--- `writer::put_full_line` meets its contract. The loop's invariant: four groups for each turn are written. Assumes nothing.
+-- `writer::put_full_line` meets its contract: the values of the line, and then their characters. Assumes nothing.
 use borrow.Author.Needs.{needs}
-use mathlib.Core.Path.{_≡_, refl, _∙_}
-use Prim.Native.Nat.{_+_, _-_, _*_, _≤_}
 use native.Mathlib.Omega.{arith}
-use lib.ListN.{length}
-use Rattle.writing.proofs.Progress.{Wrote, wrote-none, wrote-then}
+use Rattle.writer.proofs.Values.{line-wrote}
 use Rattle.writer.proofs.put_full_line.Statement.{statement}
 use Rattle.writer.proofs.put_full_line.Tie as tie
 
-abbrev Inv-loop : tie.InvT-loop
-Inv-loop table content i out₀ at q₀ out q = (q ≤ 4) × (length out ≡ length out₀) × Wrote content out₀ out at i (4 * q)
+put-line-values-requires : tie.Need-put-line-values-requires
+put-line-values-requires c κs = search needs
 
-abbrev μ-loop : tie.MeasureT-loop
-μ-loop table content i out₀ at q₀ out q = 4 - q
+put-line-chars-requires : tie.Need-put-line-chars-requires
+put-line-chars-requires c κs = search needs
 
-loop-holds : tie.Need-loop-holds Inv-loop μ-loop
-loop-holds c =
-    let args = c .before .before .args in
-    (omega arith, refl, wrote-none (args .content .now) (args .out .now) (args .at) (args .i))
-
-mul-put-four-groups : tie.Need-mul-put-four-groups Inv-loop μ-loop
-mul-put-four-groups c = search needs
-
-add-put-four-groups : tie.Need-add-put-four-groups Inv-loop μ-loop
-add-put-four-groups c = search needs
-
-mul-put-four-groups-2 : tie.Need-mul-put-four-groups-2 Inv-loop μ-loop
-mul-put-four-groups-2 c = search needs
-
-add-put-four-groups-2 : tie.Need-add-put-four-groups-2 Inv-loop μ-loop
-add-put-four-groups-2 c = search needs
-
-put-four-groups-requires : tie.Need-put-four-groups-requires Inv-loop μ-loop
-put-four-groups-requires c κs =
-    let start = c .before .before .before .before .before in
-    let inv = c .before .before .loop .inv in
-    (start .pre .0, omega (arith, start .pre .1), omega (arith, start .pre .2, inv .1))
-
-add-q : tie.Need-add-q Inv-loop μ-loop
-add-q c = search needs
-
-loop-less : tie.Need-loop-less Inv-loop μ-loop
-loop-less c = search needs
-
-loop-again : tie.Need-loop-again Inv-loop μ-loop
-loop-again c =
-    let inv = c .before .before .before .before .before .loop .inv in
-    let put = c .before .before .put-four-groups .ensures in
-    (omega arith, put .size ∙ inv .1, wrote-then (inv .2) _ _ (omega arith) (omega arith) put _ (omega arith))
-
-same-length : tie.Need-same-length Inv-loop μ-loop
+same-length : tie.Need-same-length
 same-length c = search needs
 
-returns : tie.Need-returns Inv-loop μ-loop
+returns : tie.Need-returns
 returns c =
-    let four : 4 * c .before .loop .q ≡ 16 = omega (arith, c .before .loop .inv .0) in
-    rw four at (c .before .loop .inv .2)
+    let lined = c .before .before in
+    let valued = lined .before .before .before .before in
+    let known = valued .before .before .before in
+    line-wrote (valued .put-line-values .ensures) (λ j. omega (arith, known .shared-slice-known .given j)) (known .before .pre .1) (known .before .pre .2) (lined .put-line-chars .ensures)
 
 pub put-full-line-spec : {M : Type 1} → statement M
 put-full-line-spec =
-    tie.close
-    (tie.spec
-    Inv-loop
-    μ-loop
-    loop-holds
-    mul-put-four-groups
-    add-put-four-groups
-    mul-put-four-groups-2
-    add-put-four-groups-2
-    put-four-groups-requires
-    add-q
-    loop-less
-    loop-again
-    same-length
-    returns)
+    tie.close (tie.spec put-line-values-requires put-line-chars-requires same-length returns)
