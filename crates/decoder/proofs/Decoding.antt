@@ -1,21 +1,16 @@
 -- Data that is written from the front of an output: groups at once, and byte by byte. Assumes nothing.
 use mathlib.Core.Path.{_≡_, refl, sym, ap, _∙_}
-use mathlib.Core.Logic.{_≢_}
 use mathlib.Core.Bool.{Bool, true, false}
 use mathlib.Core.List.{List, [], _∷_, _++_, append-assoc, append-nil}
-use Prim.Native.Nat.{ℕ, zero, suc, _+_, _-_, _*_, _/_, _%_, _≤_, _<_}
+use Prim.Native.Nat.{ℕ, suc, _+_, _-_, _*_, _/_, _%_, _≤_, _<_}
 use native.Mathlib.Omega.{arith}
 use native.Mathlib.Numerals.{add-one}
-use lib.Dec.{eqb, ltb}
 use lib.ListN.{length, drop, take, getD, set, length-drop, length-set, length-append, drop-of-length-le, take-append-drop}
-use lib.Seq.{drop-cons, drop-drop, take-add, take-at, drop-at, take-take, take-set-le, take-suc, take-suc-set, take-length, length-take-le}
-use borrow.Author.Tests.{eqb-true, eqb-false, ltb-true, ltb-false}
-use Rattle.base64.specs.Lists.{All}
-use Rattle.base64.specs.Alphabet.{radix, valueOf, AlphabetChar}
-use Rattle.base64.specs.Groups.{byte1, byte2, byte3, decode}
+use lib.Seq.{drop-cons, drop-drop, take-add, take-at, drop-at, take-take, take-set-le, take-suc, take-suc-set, take-length}
+use Rattle.base64.specs.Groups.{decode}
 use Rattle.base64.proofs.Groups.{decode-append, length-decode}
 use Rattle.grammar.specs.Message.{characters}
-use Rattle.grammar.proofs.Counts.{characters-append, characters-alphabet}
+use Rattle.grammar.proofs.Counts.{characters-append}
 use Rattle.decoder.specs.declared.Open.{Open}
 use Rattle.decoder.specs.declared.Open.the-variants.{Start}
 use Rattle.decoder.specs.declared.Fed.the-variants.{Held, Byte}
@@ -27,7 +22,7 @@ use Rattle.decoder.specs.Feeding.{HoldsValue, fedByte, aheadBody}
 use Rattle.decoder.proofs.Feeding.{ahead-next, ahead-none, rest-more, rest-next}
 use Rattle.decoder.specs.Tables.{mark, groupAt}
 use Rattle.decoder.specs.Decoding.{Put, Decoding, Further, Decoded, DecodedLines}
-use Rattle.decoder.proofs.Tables.{Inside, number-group, marked-bound}
+use Rattle.decoder.proofs.Tables.{Inside, number-group}
 
 -- ---- groups that are written
 
@@ -132,14 +127,6 @@ put-kept {out' = out'} {n} {k = k} p {n'} q e = record {
   written = λ small. rw e at (q .kept) ∙ p .written small;
 }
 
-pub number-bound : (text : List ℕ) (i : ℕ) → groupAt text i ≤ 1073741824
-number-bound text i =
-    let a = marked-bound 0 (getD text i 0) in
-    let b = marked-bound 1 (getD text (i + 1) 0) in
-    let c = marked-bound 2 (getD text (i + 2) 0) in
-    let d = marked-bound 3 (getD text (i + 3) 0) in
-    omega arith
-
 -- ---- a body on its way
 
 pub decoding-start : (body out : List ℕ) → length (decode (characters body)) ≤ length out → Decoding body out Start 0 0
@@ -149,10 +136,6 @@ module _ {body out : List ℕ} {g : Open} {n i : ℕ} (w : Decoding body out g n
   -- Room for what is to come.
   pub decoding-room : n ≤ length out
   decoding-room = omega (arith, w .some, w .fits)
-
-  -- What is written further back leaves it as it is.
-  decoding-kept : {out' : List ℕ} {j k s : ℕ} → Put body out out' n j k s → Decoding body out' g n i
-  decoding-kept p = record { fits = rw (p .size) (w .fits); holds = w .holds; some = w .some; others = w .others; written = p .kept ∙ w .written }
 
 -- Groups give three bytes each.
 decoding-put : {body out out' : List ℕ} {n i k s : ℕ} → Put body out out' n i k s → s < mark → Decoding body out Start n i
@@ -239,12 +222,6 @@ module _ {body out₀ out : List ℕ} {from n i : ℕ} (d : Further body out₀ 
     size = p .size ∙ d .size;
     reached = rw (en, ei) (decoding-put p small (d .reached));
   }
-
-  pub further-room : n ≤ length out
-  further-room = decoding-room (d .reached)
-
-pub further-then : {body out mid out' : List ℕ} {from n j m i : ℕ} → Further body out mid from n j → Further body mid out' j m i → Further body out out' from m i
-further-then a b = record { forward = omega (arith, a .forward, b .forward); inside = b .inside; size = b .size ∙ a .size; reached = b .reached }
 
 -- ---- lines that are decoded before their body is known
 

@@ -17,7 +17,6 @@ use Rattle.machine.proofs.ByteKinds.{kindOf}
 use Rattle.machine.proofs.Machine.{state, next, step, partOf, bytePart, dead, laxRow, standardRow, strictRow}
 use Rattle.machine.proofs.Bytes.{alphabet-seen}
 use Rattle.machine.proofs.Runs.{Takes, row-takes}
-use Rattle.machine.specs.declared.Kind.the-variants as kind
 use Rattle.machine.specs.declared.LaxPhase.the-variants as lax
 use Rattle.machine.specs.declared.StandardPhase.the-variants as standard
 use Rattle.machine.specs.declared.StrictPhase.the-variants as strict
@@ -349,13 +348,6 @@ strict-ends g = record { from = refl; to = refl; alive = refl; lf = refl; cr = r
 
 -- ---- Full lines
 
-staying-line : {g : Grammar} {p q r : Phase} → OnCharacter g p q → OnCharacter g q q → OnLineEnd g q r → FullLine g p r
-staying-line {q = q} w on ends = record {
-  full = q;
-  run = λ text cr t i h a. let all : i + 64 - i ≡ 64 = omega arith in rw all at (staying-run cr t i (i + 64) (omega arith) h a w on);
-  ends = ends;
-}
-
 strict-full : {g : Grammar} {p : Phase} → OnCharacter g p (Strict (strict.Data 63)) → FullLine g p (Strict strict.Line)
 strict-full {g} w = record {
   full = Strict (strict.Data 0);
@@ -365,9 +357,6 @@ strict-full {g} w = record {
 
 pub strict-lines : {g : Grammar} {p : Phase} → OnCharacter g p (Strict (strict.Data 63)) → FullLines g p (Strict strict.Line)
 strict-lines {g} w = record { first = strict-full w; again = strict-full (strict-line g) }
-
-pub line-phases-full : {g : Grammar} {p within behind trailing : Phase} {resumes : Bool} → LinePhases g p within behind trailing resumes → FullLines g p behind
-line-phases-full l = record { first = staying-line (l .begins) (l .goes-on) (l .ends); again = staying-line (l .again) (l .goes-on) (l .ends) }
 
 -- One full line of those that may stand here.
 pub full-line : {g : Grammar} {text : List ℕ} {p q : Phase} → FullLine g p q → (cr : Bool) (t : Tally) (i n : ℕ) → i + 64 ≤ length text → Characters text i (i + 64) → LineEndAt text (i + 64) n → 0 < n

@@ -1,13 +1,13 @@
 -- Leaps over the bytes of a boundary. Assumes nothing.
-use mathlib.Core.Path.{_≡_, refl, sym, ap, subst, _∙_}
+use mathlib.Core.Path.{_≡_, refl, sym, subst, _∙_}
 use mathlib.Core.Logic.{inl, inr}
-use mathlib.Core.Bool.{Bool, true, false, cond, not}
+use mathlib.Core.Bool.{Bool, true, false, not}
 use mathlib.Core.List.{List}
 use Prim.Native.Nat.{ℕ, zero, suc, _+_, _-_, _≤_, _<_}
 use native.Mathlib.Omega.{arith}
-use lib.Dec.{T, eqb, ltb, eqb→eq}
+use lib.Dec.{T, eqb, eqb→eq}
 use lib.ListN.{length, getD}
-use borrow.Author.Tests.{eq-eqb, ne-eqb, lt-ltb, le-ltb, not-true, eqb-true, eqb-false}
+use borrow.Author.Tests.{eq-eqb, lt-ltb, le-ltb, eqb-true, eqb-false}
 use Rattle.base64.proofs.Tests.{below-at}
 use Rattle.grammar.specs.Marks.{CR, LF, hyphen, hyphens, LabelChar}
 use Rattle.grammar.specs.declared.Grammar.{Grammar}
@@ -15,13 +15,13 @@ use Rattle.grammar.specs.declared.Grammar.the-variants as grammar
 use Rattle.machine.proofs.ByteKinds.{kindOf}
 use Rattle.machine.proofs.Bytes as seen
 use Rattle.machine.proofs.Bytes.{View, view}
-use Rattle.machine.proofs.Machine.{state, next, step, partOf, boundaryPart, bytePart, dead, wordOf, labelRow, labelTarget, behind}
+use Rattle.machine.proofs.Machine.{state, next, partOf, boundaryPart, bytePart, dead, wordOf, labelRow, labelTarget, behind}
 use Rattle.machine.specs.declared.Boundary.{Boundary}
 use Rattle.machine.specs.declared.Boundary.the-variants.{Opening, Closing}
 use Rattle.machine.specs.declared.Kind.{Kind}
 use Rattle.machine.specs.declared.LabelPhase.{LabelPhase}
-use Rattle.machine.specs.declared.LabelPhase.the-variants.{Start, Char, Space, Hyphen, One, Two, Three, Four}
-use Rattle.machine.specs.declared.LabelTarget.the-variants.{To, Whole}
+use Rattle.machine.specs.declared.LabelPhase.the-variants.{Start, Char, Hyphen, One, Two, Three, Four}
+use Rattle.machine.specs.declared.LabelTarget.the-variants.{To}
 use Rattle.machine.specs.declared.LabelRow.{LabelRow}
 use Rattle.machine.specs.declared.Part.{Part}
 use Rattle.machine.specs.declared.State.{State}
@@ -31,7 +31,7 @@ use Rattle.reading.specs.declared.Tally.{Tally}
 use Rattle.reading.specs.Scan.{tallied}
 use Rattle.runs.specs.Runs.{Stands, LabelRun}
 use Rattle.scanner.specs.Advances.{Advanced, Countable, Continues, Closes, boundaryTallied, endedTallied}
-use Rattle.scanner.proofs.Advances.{advanced-none, advanced-then, advanced-byte, step-moves}
+use Rattle.scanner.proofs.Advances.{advanced-then, advanced-byte, step-moves}
 
 -- A byte leads from one phase of a boundary on.
 record Inner (g : Grammar) (b : Boundary) (p q : Phase) (c : ℕ) : Type 0 where

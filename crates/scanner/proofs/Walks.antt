@@ -3,7 +3,7 @@ use mathlib.Core.Path.{_≡_, refl, sym, ap}
 use mathlib.Core.Logic.{_≢_, _⊎_, inl, inr}
 use mathlib.Core.Bool.{Bool, true, false, cond}
 use mathlib.Core.List.{List}
-use Prim.Native.Nat.{ℕ, _+_, _-_, _*_, _≤_, _<_, _^_}
+use Prim.Native.Nat.{ℕ, _+_, _-_, _*_, _≤_, _<_}
 use native.Mathlib.Omega.{arith}
 use lib.Dec.{eqb}
 use lib.ListN.{length}
@@ -16,7 +16,7 @@ use Rattle.reading.specs.declared.Tally.{Tally}
 use Rattle.runs.specs.Runs.{Characters, LineEndAt, IsLine, LinesTo, no-lines, a-line}
 use Rattle.runs.proofs.Runs.{line-end-inside}
 use Rattle.runs.proofs.Lined.{LinesInside, lines-inside}
-use Rattle.scanner.specs.Advances.{positionAt, Advanced, Countable, OnCharacter, LinePhases, FullLine, FullLines, LinesFit, runTallied, othersTallied, linesTallied, behindLines}
+use Rattle.scanner.specs.Advances.{positionAt, Advanced, Countable, OnCharacter, LinePhases, FullLine, LinesFit, runTallied, othersTallied, linesTallied, behindLines}
 use Rattle.scanner.specs.declared.Position.{Position}
 use Rattle.scanner.proofs.Advances.{advanced-none, advanced-then, blanks-to, blanks-line-end, staying-run, others-none, full-line}
 

@@ -765,12 +765,29 @@ fn advance_byte(text: &[u8], at: usize, grammar: Grammar, state: State, tally: T
     }
 }
 
-// The next run or, where there is none, the next byte. No run begins with white, where the search for one would be in vain.
+// Whether a run is worth looking for: none begins with white, and a byte with white behind it is none, but for a pad.
+fn may_run(text: &[u8], at: usize) -> bool
+    requires { ⌜ at < length (now text) ⌝ }
+{
+    let b = text[at];
+    if b <= SP {
+        return false;
+    }
+    if b == PAD {
+        return true;
+    }
+    if text.len() - at == 1 {
+        return false;
+    }
+    SP < text[at + 1]
+}
+
+// The next run or, where there is none, the next byte.
 fn advance(text: &[u8], at: usize, grammar: Grammar, state: State, tally: Tally) -> Position
     requires { ⌜ (at < length (now text)) × Within tally at ⌝ }
     ensures { λ r. ⌜ Advanced grammar (now (text .entry)) state tally at (r .state) (r .tally) (r .at) × (r .at ≡ at → Stopped grammar (now (text .entry)) state tally at) ⌝ }
 {
-    if SP < text[at] {
+    if may_run(text, at) {
         let run = advance_run(text, at, grammar, state, tally);
         if at < run.at {
             return run;

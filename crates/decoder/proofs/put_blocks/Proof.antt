@@ -1,7 +1,6 @@
 -- `decoder::put_blocks` meets its contract. Assumes nothing.
-use Prim.Native.Nat.{ℕ, _+_, _-_, _*_, _≤_, _<_}
+use Prim.Native.Nat.{_-_}
 use native.Mathlib.Omega.{arith}
-use lib.ListN.{length}
 use mathlib.Core.Path.{refl}
 use Rattle.decoder.proofs.Decoding.{further-start, further-skip, further-put}
 use borrow.Author.Needs.{needs}

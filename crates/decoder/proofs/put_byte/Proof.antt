@@ -1,6 +1,5 @@
 -- `decoder::put_byte` meets its contract. Assumes nothing.
 use mathlib.Core.Path.{refl, sym, _∙_}
-use native.Mathlib.Omega.{arith}
 use lib.ListN.{length-set}
 use borrow.Author.Needs.{needs}
 use Rattle.decoder.proofs.Decoding.{decoding-held, decoding-below, decoding-given}

@@ -1,11 +1,10 @@
 -- `decoder::run_of_fours` meets its contract. Assumes nothing.
-use Prim.Native.Nat.{ℕ, _+_, _-_, _*_, _≤_, _<_}
+use Prim.Native.Nat.{_+_, _-_, _*_}
 use native.Mathlib.Omega.{arith}
 use lib.ListN.{length}
-use mathlib.Core.Path.{_≡_, refl, _∙_}
+use mathlib.Core.Path.{_≡_, _∙_}
 use Rattle.decoder.specs.Decoding.{Put}
 use Rattle.decoder.proofs.Decoding.{put-none, put-known, put-then, put-kept}
-use borrow.Author.Needs.{needs}
 use Rattle.decoder.proofs.run_of_fours.Statement.{statement}
 use Rattle.decoder.proofs.run_of_fours.Tie as tie
 

@@ -1,6 +1,5 @@
 -- `output::clear_from` meets its contract. The loop's invariant: the bytes from the place on and before i are zero, and the others are as they were. Assumes nothing.
 use Prim.Native.Nat.{_-_}
-use native.Mathlib.Omega.{arith}
 use lib.ListN.{length}
 use Rattle.output.proofs.Zeros.{Cleared, cleared-none, cleared-next, cleared-all}
 use borrow.Author.Needs.{needs}

@@ -1,6 +1,6 @@
 -- `runs::full_lines` meets its contract: all that was passed are full lines. Assumes nothing.
 use mathlib.Core.Bool.{true}
-use Prim.Native.Nat.{_-_, _≤_}
+use Prim.Native.Nat.{_-_}
 use native.Mathlib.Omega.{arith}
 use lib.ListN.{length}
 use borrow.Author.Needs.{needs}

@@ -1,8 +1,7 @@
 -- `runs::label_run_end` meets its contract. Assumes nothing.
-use mathlib.Core.Path.{_≡_, refl, sym, ap, _∙_}
-use Prim.Native.Nat.{ℕ, _+_, _-_, _≤_, _<_}
+use Prim.Native.Nat.{_-_, _≤_}
 use native.Mathlib.Omega.{arith}
-use lib.ListN.{length, getD}
+use lib.ListN.{length}
 use Rattle.runs.specs.Runs.{LabelRun}
 use Rattle.runs.proofs.Runs.{run-none, run-more}
 use Rattle.runs.proofs.Standing.{label-char}

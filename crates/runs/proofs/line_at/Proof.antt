@@ -1,7 +1,6 @@
 -- `runs::line_at` meets its contract. Assumes nothing.
-use Prim.Native.Nat.{ℕ, _+_, _-_, _≤_, _<_}
+use Prim.Native.Nat.{_+_, _-_}
 use native.Mathlib.Omega.{arith}
-use lib.ListN.{length}
 use mathlib.Core.Path.{_≡_}
 use Rattle.runs.proofs.Runs.{line-end-inside}
 use borrow.Author.Needs.{needs}

@@ -1,7 +1,6 @@
 -- `runs::line_end_at` meets its contract. Assumes nothing.
-use Prim.Native.Nat.{ℕ, _+_, _-_, _≤_, _<_}
+use Prim.Native.Nat.{_-_}
 use native.Mathlib.Omega.{arith}
-use lib.ListN.{length}
 use Rattle.runs.specs.Runs.{none, lf, crlf}
 use borrow.Author.Needs.{needs}
 use Rattle.runs.proofs.line_end_at.Statement.{statement}

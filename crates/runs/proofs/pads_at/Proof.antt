@@ -1,6 +1,4 @@
 -- `runs::pads_at` meets its contract. Assumes nothing.
-use mathlib.Core.Path.{_≡_}
-use Prim.Native.Nat.{_+_}
 use native.Mathlib.Omega.{arith}
 use borrow.Author.Needs.{needs}
 use Rattle.runs.proofs.Runs.{run-none, run-one, run-more}

@@ -1,7 +1,6 @@
 -- `runs::run_by_blocks` meets its contract. Assumes nothing.
-use Prim.Native.Nat.{ℕ, _+_, _-_, _≤_, _<_}
+use Prim.Native.Nat.{_-_, _≤_}
 use native.Mathlib.Omega.{arith}
-use lib.ListN.{length}
 use borrow.Author.Tests.{not-false}
 use Rattle.runs.specs.Runs.{Characters}
 use Rattle.runs.proofs.Runs.{run-none, run-then}

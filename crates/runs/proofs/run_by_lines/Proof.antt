@@ -1,9 +1,8 @@
 -- `runs::run_by_lines` meets its contract. Assumes nothing.
-use Prim.Native.Nat.{ℕ, _+_, _-_, _≤_, _<_}
+use Prim.Native.Nat.{_-_, _≤_}
 use native.Mathlib.Omega.{arith}
-use lib.ListN.{length}
 use Rattle.runs.specs.Runs.{Characters}
-use Rattle.runs.proofs.Runs.{run-none, run-more, run-then}
+use Rattle.runs.proofs.Runs.{run-none, run-then}
 use borrow.Author.Tests.{not-false}
 use borrow.Author.Needs.{needs}
 use Rattle.runs.proofs.run_by_lines.Statement.{statement}

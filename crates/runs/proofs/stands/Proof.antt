@@ -1,8 +1,7 @@
 -- `runs::stands` meets its contract. Assumes nothing.
-use mathlib.Core.Path.{_≡_, refl, sym, ap, _∙_}
-use Prim.Native.Nat.{ℕ, _+_, _-_, _≤_, _<_}
+use Prim.Native.Nat.{_-_, _≤_}
 use native.Mathlib.Omega.{arith}
-use lib.ListN.{length, getD}
+use lib.ListN.{length}
 use mathlib.Core.Bool.{false≢true}
 use Rattle.runs.proofs.Standing.{Standing, standing-none, standing-more, standing-all}
 use borrow.Author.Needs.{needs}

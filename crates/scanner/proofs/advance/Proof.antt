@@ -5,8 +5,8 @@ use Rattle.scanner.proofs.Advances.{countable}
 use Rattle.scanner.proofs.advance.Statement.{statement}
 use Rattle.scanner.proofs.advance.Tie as tie
 
-shared-slice-read-if1 : tie.Need-shared-slice-read-if1
-shared-slice-read-if1 c = search needs
+may-run-requires : tie.Need-may-run-requires
+may-run-requires c κs = search needs
 
 advance-run-requires : tie.Need-advance-run-requires
 advance-run-requires c κs =
@@ -26,7 +26,7 @@ pub advance-spec : {M : Type 1} → statement M
 advance-spec =
     tie.close
     (tie.spec
-    shared-slice-read-if1
+    may-run-requires
     advance-run-requires
     returns
     advance-byte-requires

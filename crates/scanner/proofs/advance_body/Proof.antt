@@ -1,7 +1,5 @@
 -- `scanner::advance_body` meets its contract. Assumes nothing.
-use Prim.Native.Nat.{ℕ, _+_, _-_, _≤_, _<_}
-use native.Mathlib.Omega.{arith}
-use lib.ListN.{length}
+use Prim.Native.Nat.{_-_}
 use borrow.Author.Needs.{needs}
 use Rattle.scanner.proofs.advance_body.Statement.{statement}
 use Rattle.scanner.proofs.advance_body.Tie as tie

@@ -1,5 +1,5 @@
 -- `scanner::advance_lines` meets its contract. Assumes nothing.
-use Prim.Native.Nat.{ℕ, _+_, _-_, _≤_, _<_}
+use Prim.Native.Nat.{_-_, _<_}
 use native.Mathlib.Omega.{arith}
 use lib.ListN.{length}
 use Rattle.scanner.proofs.Walks.{Walk, walk-start, walk-inside, walk-open, walk-paused, walk-resumed, walk-ended}

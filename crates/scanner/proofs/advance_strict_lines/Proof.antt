@@ -1,5 +1,4 @@
 -- `scanner::advance_strict_lines` meets its contract. Assumes nothing.
-use native.Mathlib.Omega.{arith}
 use mathlib.Core.Path.{_≡_}
 use mathlib.Core.Logic.{_⊎_, inl, inr}
 use Rattle.grammar.specs.declared.Grammar.{Grammar}

@@ -1,7 +1,5 @@
 -- `scanner::advance_words` meets its contract. Assumes nothing.
-use Prim.Native.Nat.{ℕ, _+_, _-_, _≤_, _<_}
-use native.Mathlib.Omega.{arith}
-use lib.ListN.{length}
+use Prim.Native.Nat.{_-_}
 use mathlib.Core.Path.{sym, ap}
 use Rattle.machine.proofs.Machine.{wordOf}
 use borrow.Author.Needs.{needs}

@@ -1,7 +1,5 @@
 -- `scanner::body_line` meets its contract. Assumes nothing.
-use Prim.Native.Nat.{ℕ, _+_, _-_, _≤_, _<_}
-use native.Mathlib.Omega.{arith}
-use lib.ListN.{length}
+use Prim.Native.Nat.{_-_}
 use mathlib.Core.Path.{_≡_}
 use Rattle.machine.specs.declared.LaxPhase.the-variants as lax
 use Rattle.machine.specs.declared.StandardPhase.the-variants as standard

@@ -1,7 +1,6 @@
 -- `scanner::scan_text` meets its contract. Assumes nothing.
-use Prim.Native.Nat.{ℕ, _+_, _-_, _≤_, _<_}
+use Prim.Native.Nat.{_-_}
 use native.Mathlib.Omega.{arith}
-use lib.ListN.{length}
 use mathlib.Core.Path.{refl, _∙_}
 use Rattle.scanner.proofs.Advances.{scanned}
 use borrow.Author.Needs.{needs}

@@ -1,8 +1,6 @@
 -- `scanner::tally_boundary` meets its contract. Assumes nothing.
-use mathlib.Core.Path.{_≡_, refl, sym, ap, _∙_}
-use Prim.Native.Nat.{ℕ, _+_, _-_, _≤_, _<_}
-use native.Mathlib.Omega.{arith}
-use lib.ListN.{length, getD}
+use mathlib.Core.Path.{_≡_}
+use Prim.Native.Nat.{_-_}
 use Rattle.machine.specs.declared.Boundary.the-variants.{Opening, Closing}
 use borrow.Author.Needs.{needs}
 use Rattle.scanner.proofs.tally_boundary.Statement.{statement}

@@ -1,6 +1,5 @@
 -- `scanner::tally_ended` meets its contract. Assumes nothing.
-use mathlib.Core.Path.{_≡_, _∙_}
-use Rattle.machine.specs.declared.Boundary.the-variants.{Opening}
+use mathlib.Core.Path.{_∙_}
 use borrow.Author.Needs.{needs}
 use Rattle.scanner.proofs.tally_ended.Statement.{statement}
 use Rattle.scanner.proofs.tally_ended.Tie as tie
