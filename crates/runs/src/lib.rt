@@ -63,7 +63,7 @@ fn outside(b: u8) -> u8
 
 // Whether so many bytes from a place on are characters of the alphabet. The largest answer is kept and not their sum, of which the
 // vector code is slower.
-pub fn all_characters(text: &[u8], at: usize, n: usize) -> bool
+fn all_characters(text: &[u8], at: usize, n: usize) -> bool
     requires { ⌜ at + n ≤ length (now text) ⌝ }
     ensures { λ r. ⌜ (r ≡ true → Characters (now (text .entry)) at (at + n)) ⌝ }
 {
@@ -79,8 +79,8 @@ pub fn all_characters(text: &[u8], at: usize, n: usize) -> bool
     most == 0
 }
 
-// The end of a run of alphabet characters that ends at the limit at the latest: by lines, by blocks, byte by byte. Each of the
-// three may stop early.
+// How far a run of alphabet characters goes, up to the limit at the latest: by lines, by blocks, byte by byte. Each of the three may
+// stop early, and the next goes on.
 fn run_by_lines(text: &[u8], from: usize, limit: usize) -> usize
     requires { ⌜ (from ≤ limit) × (limit ≤ length (now text)) ⌝ }
     ensures { λ r. ⌜ (from ≤ r) × (r ≤ limit) × Characters (now (text .entry)) from r ⌝ }
@@ -131,7 +131,7 @@ fn run_by_bytes(text: &[u8], from: usize, limit: usize) -> usize
     at
 }
 
-// By blocks and bytes alone, where no line's length is expected.
+// The end of a run that is likely to be shorter than a full line.
 pub fn short_run_end(text: &[u8], from: usize, limit: usize) -> usize
     requires { ⌜ (from ≤ limit) × (limit ≤ length (now text)) ⌝ }
     ensures { λ r. ⌜ (from ≤ r) × (r ≤ limit) × Characters (now (text .entry)) from r ⌝ }
@@ -140,6 +140,7 @@ pub fn short_run_end(text: &[u8], from: usize, limit: usize) -> usize
     run_by_bytes(text, blocks, limit)
 }
 
+// The end of a run of any length.
 fn run_end(text: &[u8], from: usize, limit: usize) -> usize
     requires { ⌜ (from ≤ limit) × (limit ≤ length (now text)) ⌝ }
     ensures { λ r. ⌜ (from ≤ r) × (r ≤ limit) × Characters (now (text .entry)) from r ⌝ }

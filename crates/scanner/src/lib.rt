@@ -329,7 +329,6 @@ fn decoded_behind(
 }
 
 // Full lines of the strict grammar, and a run of characters of a further line behind them.
-// Full lines of the strict grammar, and a run of characters of a further line behind them.
 fn advance_strict_lines(text: &[u8], from: usize, first: State, counted: Tally) -> Position
     requires { ⌜ Countable (now text) counted from ⌝ }
     ensures { λ r. ⌜ ((g : Grammar) → OnCharacter g (first .phase) (Strict (Data 63)) → Advanced g (now (text .entry)) first counted from (r .state) (r .tally) (r .at)) ⌝ }
@@ -366,7 +365,6 @@ fn body_line(phase: Phase) -> BodyLine
     }
 }
 
-// The lines that begin in a phase, decoded as they are passed; none where no line of the body begins.
 // The lines that begin in a phase, decoded as they are passed; none where no line of the body begins.
 fn decode_lines(
     table: &[u32; 1024],
