@@ -328,6 +328,27 @@ fn decoded_behind(
     }
 }
 
+// Full lines of a grammar whose lines may have any length, and others behind them.
+fn advance_any_lines(
+    text: &[u8],
+    from: usize,
+    first: State,
+    counted: Tally,
+    within: Phase,
+    behind: Phase,
+    trailing: Phase,
+    resumes: bool,
+) -> Position
+    requires { ⌜ Countable (now text) counted from ⌝ }
+    ensures { λ r. ⌜ ((g : Grammar) → LinePhases g (first .phase) within behind trailing resumes → Advanced g (now (text .entry)) first counted from (r .state) (r .tally) (r .at)) ⌝ }
+{
+    let lines = behind_lines(from, first, counted, behind, runs::full_lines(text, from));
+    let at = lines.at;
+    let state = lines.state;
+    let tally = lines.tally;
+    advance_lines(text, at, state, tally, within, behind, trailing, resumes)
+}
+
 // Full lines of the strict grammar, and a run of characters of a further line behind them.
 fn advance_strict_lines(text: &[u8], from: usize, first: State, counted: Tally) -> Position
     requires { ⌜ Countable (now text) counted from ⌝ }
@@ -625,13 +646,13 @@ fn advance_body(text: &[u8], at: usize, state: State, tally: Tally) -> Position
     match body_line(phase) {
         BodyLine::Lax => {
             let data = Phase::Lax(LaxPhase::Data);
-            advance_lines(text, at, state, tally, data, data, data, true)
+            advance_any_lines(text, at, state, tally, data, data, data, true)
         }
         BodyLine::Standard => {
             let data = Phase::Standard(StandardPhase::Data);
             let line = Phase::Standard(StandardPhase::Line);
             let trailing = Phase::Standard(StandardPhase::Trailing);
-            advance_lines(text, at, state, tally, data, line, trailing, false)
+            advance_any_lines(text, at, state, tally, data, line, trailing, false)
         }
         BodyLine::Strict => advance_strict_lines(text, at, state, tally),
         BodyLine::Elsewhere => stay(text, at, state, tally),

@@ -10,14 +10,14 @@ body-line-requires c κs = search needs
 enum-told : tie.Need-enum-told
 enum-told c = search needs
 
-advance-lines-requires : tie.Need-advance-lines-requires
-advance-lines-requires c κs = search needs
+advance-any-lines-requires : tie.Need-advance-any-lines-requires
+advance-any-lines-requires c κs = search needs
 
 enum-told-2 : tie.Need-enum-told-2
 enum-told-2 c = search needs
 
-advance-lines-requires-2 : tie.Need-advance-lines-requires-2
-advance-lines-requires-2 c κs = search needs
+advance-any-lines-requires-2 : tie.Need-advance-any-lines-requires-2
+advance-any-lines-requires-2 c κs = search needs
 
 enum-told-3 : tie.Need-enum-told-3
 enum-told-3 c = search needs
@@ -32,10 +32,10 @@ stay-requires : tie.Need-stay-requires
 stay-requires c κs = search needs
 
 returns : tie.Need-returns
-returns c = λ g. c .advance-lines .ensures g ((rw (c .before .enum-told .given .1) at (c .before .before .before .body-line .ensures)) g)
+returns c = λ g. c .advance-any-lines .ensures g ((rw (c .before .enum-told .given .1) at (c .before .before .before .body-line .ensures)) g)
 
 returns-2 : tie.Need-returns-2
-returns-2 c = λ g. c .advance-lines2 .ensures g ((rw (c .before .enum-told2 .given .1) at (c .before .before .before .body-line .ensures)) g)
+returns-2 c = λ g. c .advance-any-lines2 .ensures g ((rw (c .before .enum-told2 .given .1) at (c .before .before .before .body-line .ensures)) g)
 
 returns-3 : tie.Need-returns-3
 returns-3 c = λ g. c .advance-strict-lines .ensures g ((rw (c .before .enum-told3 .given .1) at (c .before .before .before .body-line .ensures)) g)
@@ -49,9 +49,9 @@ advance-body-spec =
     (tie.spec
     body-line-requires
     enum-told
-    advance-lines-requires
+    advance-any-lines-requires
     enum-told-2
-    advance-lines-requires-2
+    advance-any-lines-requires-2
     enum-told-3
     advance-strict-lines-requires
     enum-told-4
