@@ -28,7 +28,8 @@ use Rattle.reading.specs.declared.Tally.{Tally}
 use Rattle.reading.specs.Scan.{characterTallied, tallied, stopped, scanOf}
 use Rattle.reading.proofs.Scans.{Within, within-next}
 use Rattle.runs.specs.Runs.{Characters, Blanks, LineEndAt, none, lf, crlf, Pads}
-use Rattle.scanner.specs.Advances.{Advanced, Stopped, Countable, OnCharacter, OnLineEnd, OnBlank, LinePhases, FullLine, FullLines, runTallied, othersTallied, OnPad, OnPads, one-pad, two-pads, padsTallied}
+use Rattle.scanner.specs.Advances.{Advanced, Stopped, Countable, runTallied, othersTallied, padsTallied}
+use Rattle.scanner.specs.Phases.{OnCharacter, OnLineEnd, OnBlank, LinePhases, FullLine, FullLines, OnPad, OnPads, one-pad, two-pads}
 
 module _ {g : Grammar} {text : List ℕ} where
   pub advanced-none : (s : State) (t : Tally) (i : ℕ) → i ≤ length text → Advanced g text s t i s t i
