@@ -3,14 +3,14 @@
 // The grammar is lax, standard, strict or a number, and lax where it is left out. Standard input is indexed as a whole, and
 // each message gets a line: start, length, label and data size. A refusal is one line: number and place; more than 65,536 bytes
 // are a text that is too long. What keeps the program from its work is one line that starts with its name.
-mod choice;
-mod input;
 mod listing;
 
-use choice::Choice;
 use grammar::Grammar;
-use input::Input;
 use reading::Refusal;
+use shell::choice;
+use shell::choice::Choice;
+use shell::input;
+use shell::input::Input;
 use support::print;
 use support::table;
 

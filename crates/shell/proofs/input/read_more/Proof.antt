@@ -1,7 +1,7 @@
--- `pem_index::input::read_more` meets its contract. Assumes nothing.
+-- `shell::input::read_more` meets its contract. Assumes nothing.
 use borrow.Author.Needs.{needs}
-use Rattle.pem_index.proofs.input.read_more.Statement.{statement}
-use Rattle.pem_index.proofs.input.read_more.Tie as tie
+use Rattle.shell.proofs.input.read_more.Statement.{statement}
+use Rattle.shell.proofs.input.read_more.Tie as tie
 
 sub-rest : tie.Need-sub-rest
 sub-rest c = search needs

@@ -1,11 +1,11 @@
--- `pem_index::input::read` meets its contract: each read fills at least one byte that is still free. Assumes nothing.
+-- `shell::input::read` meets its contract: each read fills at least one byte that is still free. Assumes nothing.
 use borrow.Author.Needs.{needs}
 use mathlib.Core.Path.{_≡_}
 use Prim.Native.Nat.{_-_, _≤_}
 use native.Mathlib.Omega.{arith}
 use lib.ListN.{length}
-use Rattle.pem_index.proofs.input.read.Statement.{statement}
-use Rattle.pem_index.proofs.input.read.Tie as tie
+use Rattle.shell.proofs.input.read.Statement.{statement}
+use Rattle.shell.proofs.input.read.Tie as tie
 
 abbrev Inv-loop : tie.InvT-loop
 Inv-loop text₀ n₀ text n = (n ≤ length text) × (length text ≡ length text₀)

@@ -1,4 +1,4 @@
--- `pem_index::choice::of` meets its contract. Assumes nothing.
+-- `shell::choice::of` meets its contract. Assumes nothing.
 use borrow.Author.Needs.{needs}
 use mathlib.Core.Path.{_≡_, refl, sym, ap, _∙_}
 use mathlib.Core.Bool.{true≢false}
@@ -8,11 +8,11 @@ use Prim.Native.Nat.{ℕ}
 use native.Mathlib.Omega.{arith}
 use lib.ListN.{length}
 use Rattle.grammar.specs.Grammars.{laxNumber, standardNumber, strictNumber}
-use Rattle.pem_index.specs.Words.{Names, lax, standard, strict, spelled}
-use Rattle.pem_index.specs.declared.choice.Choice.{Choice}
-use Rattle.pem_index.specs.declared.choice.Choice.the-variants.{Number}
-use Rattle.pem_index.proofs.choice.of.Statement.{statement}
-use Rattle.pem_index.proofs.choice.of.Tie as tie
+use Rattle.shell.specs.Words.{Names, lax, standard, strict, spelled}
+use Rattle.shell.specs.declared.choice.Choice.{Choice}
+use Rattle.shell.specs.declared.choice.Choice.the-variants.{Number}
+use Rattle.shell.proofs.choice.of.Statement.{statement}
+use Rattle.shell.proofs.choice.of.Tie as tie
 
 -- A word is one name at most: they differ in their lengths.
 apart : (a b : List ℕ) → length a ≢ length b → a ≢ b

@@ -3,7 +3,7 @@ ghost use mathlib.Core.Path.{_≡_};
 ghost use Prim.Native.Nat.{_≤_};
 ghost use lib.ListN.{length};
 ghost use Rattle.grammar.specs.Grammars.{grammarOf};
-ghost use Rattle.pem_index.specs.Input.{ReadBehind, Within, longRefusal};
+ghost use Rattle.shell.specs.Input.{ReadBehind, Within, longRefusal};
 use grammar::Grammar;
 use grammar::Numbered;
 use libc::STDIN_FILENO;

@@ -1,6 +1,6 @@
 // The grammar that a word names, by its number. The library may not know the number.
 ghost use mathlib.Core.Path.{_≡_};
-ghost use Rattle.pem_index.specs.Words.{Names, extended, spelled};
+ghost use Rattle.shell.specs.Words.{Names, extended, spelled};
 use grammar::Grammar;
 
 pub enum Choice {

@@ -1,4 +1,4 @@
--- `pem_index::choice::number` meets its contract. The loop's invariant: the word is the number that the characters which are left make
+-- `shell::choice::number` meets its contract. The loop's invariant: the word is the number that the characters which are left make
 -- of the one so far. Assumes nothing.
 use borrow.Author.Needs.{needs}
 use mathlib.Core.Path.{_≡_, refl, sym, _∙_}
@@ -8,11 +8,11 @@ use native.Mathlib.Omega.{arith}
 use native.Mathlib.Numerals.{add-one}
 use lib.ListN.{length, drop, getD, drop-of-length-le}
 use lib.Seq.{drop-cons}
-use Rattle.pem_index.specs.Words.{extended, onward, spelledFrom, spelled}
-use Rattle.pem_index.specs.declared.choice.Choice.{Choice}
-use Rattle.pem_index.specs.declared.choice.Choice.the-variants.{Number, Unknown}
-use Rattle.pem_index.proofs.choice.number.Statement.{statement}
-use Rattle.pem_index.proofs.choice.number.Tie as tie
+use Rattle.shell.specs.Words.{extended, onward, spelledFrom, spelled}
+use Rattle.shell.specs.declared.choice.Choice.{Choice}
+use Rattle.shell.specs.declared.choice.Choice.the-variants.{Number, Unknown}
+use Rattle.shell.proofs.choice.number.Statement.{statement}
+use Rattle.shell.proofs.choice.number.Tie as tie
 
 -- A character, and those behind it.
 number-next : (n : ℕ) (l : List ℕ) (i : ℕ) (t : Choice) → i < length l → extended n (getD l i 0) ≡ t

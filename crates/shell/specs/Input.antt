@@ -4,10 +4,10 @@ use Rattle.grammar.specs.declared.Numbered.{Numbered}
 use Rattle.grammar.specs.declared.Numbered.the-variants.{Known, Unknown}
 use Rattle.reading.specs.declared.Refusal.{Refusal}
 use Rattle.reading.specs.declared.Refusal.the-variants.{UnknownGrammar, TextTooLong}
-use Rattle.pem_index.specs.declared.input.Input.{Input}
-use Rattle.pem_index.specs.declared.input.Input.the-variants as input
-use Rattle.pem_index.specs.declared.input.More.{More}
-use Rattle.pem_index.specs.declared.input.More.the-variants as more
+use Rattle.shell.specs.declared.input.Input.{Input}
+use Rattle.shell.specs.declared.input.Input.the-variants as input
+use Rattle.shell.specs.declared.input.More.{More}
+use Rattle.shell.specs.declared.input.More.the-variants as more
 
 -- What was read behind n bytes is a byte at least, and within the buffer.
 abbrev pub ReadBehind : ℕ → More → ℕ → Type 0

@@ -6,8 +6,8 @@ use mathlib.Core.List.{List, [], _∷_}
 use Prim.Native.Nat.{ℕ, _+_, _-_, _*_}
 use lib.Dec.{ltb}
 use Rattle.grammar.specs.Grammars.{laxNumber, standardNumber, strictNumber}
-use Rattle.pem_index.specs.declared.choice.Choice.{Choice}
-use Rattle.pem_index.specs.declared.choice.Choice.the-variants.{Number, Unknown}
+use Rattle.shell.specs.declared.choice.Choice.{Choice}
+use Rattle.shell.specs.declared.choice.Choice.the-variants.{Number, Unknown}
 
 -- "lax", "standard" and "strict".
 abbrev pub lax : List ℕ

@@ -1,9 +1,9 @@
--- `pem_index::input::long_refusal` meets its contract. Assumes nothing.
+-- `shell::input::long_refusal` meets its contract. Assumes nothing.
 use mathlib.Core.Path.{_≡_, sym, _∙_}
 use borrow.Author.Needs.{needs}
 use Rattle.grammar.specs.Grammars.{grammarOf}
-use Rattle.pem_index.proofs.input.long_refusal.Statement.{statement}
-use Rattle.pem_index.proofs.input.long_refusal.Tie as tie
+use Rattle.shell.proofs.input.long_refusal.Statement.{statement}
+use Rattle.shell.proofs.input.long_refusal.Tie as tie
 
 from-number-requires : tie.Need-from-number-requires
 from-number-requires c κs = search needs

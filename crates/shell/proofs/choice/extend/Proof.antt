@@ -1,10 +1,10 @@
--- `pem_index::choice::extend` meets its contract: the code's tests are the definition's. Assumes nothing.
+-- `shell::choice::extend` meets its contract: the code's tests are the definition's. Assumes nothing.
 use borrow.Author.Needs.{needs}
 use borrow.Author.Tests.{lt-ltb, le-ltb}
 use native.Mathlib.Omega.{arith}
-use Rattle.pem_index.specs.Words.{firstDigit, lastDigit, fewEnough}
-use Rattle.pem_index.proofs.choice.extend.Statement.{statement}
-use Rattle.pem_index.proofs.choice.extend.Tie as tie
+use Rattle.shell.specs.Words.{firstDigit, lastDigit, fewEnough}
+use Rattle.shell.proofs.choice.extend.Statement.{statement}
+use Rattle.shell.proofs.choice.extend.Tie as tie
 
 returns : tie.Need-returns
 returns c = simp (lt-ltb (c .before .args .c) firstDigit (omega arith))
