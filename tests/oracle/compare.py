@@ -58,7 +58,8 @@ class Texts:
             body += self.random.choice([blanks(), self.line_end()])
         for _ in range(self.random.choice([0, 1, 2])):
             body += self.characters(self.random.randint(1, 6)) + blanks() + self.line_end()
-        return body + self.characters(self.random.randint(0, 6)) + b"=" * self.random.choice([0, 0, 1, 2]) + blanks() + self.line_end()
+        pads = self.random.choice([b"", b"", b"=", b"==", b"=" + blanks() + self.line_end() + b"="])
+        return body + self.characters(self.random.randint(0, 6)) + pads + blanks() + self.line_end()
 
     def strict_body(self):
         body = self.line_end()

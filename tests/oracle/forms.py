@@ -5,8 +5,8 @@ import zlib
 MARKS = {"$": 10, "%": 13, "&": 9, "(": 11, ")": 12, "*": 0, "?": 127, "`": 193, "^": 255}
 LETTERS = {byte: mark for mark, byte in MARKS.items()}
 RESERVED = set(MARKS) | set("@{}")
-# Of the samples of one script: the program has room for those of both.
-LIMIT = 65536
+# The most that each script may write: together what the program has room for.
+TEXT_SAMPLES, WRITE_SAMPLES = 81920, 49152
 # What the program has for a text, a label, data or an output.
 BUFFER = 65536
 GRAMMARS = {1: "lax", 2: "standard", 3: "strict"}
@@ -34,8 +34,8 @@ def text_of(form, count):
 class Samples:
     """Samples on their way to a program's standard input."""
 
-    def __init__(self):
-        self.lines, self.seen = [], set()
+    def __init__(self, most):
+        self.most, self.lines, self.seen = most, [], set()
 
     def comment(self, s):
         assert "@" not in s and "}" not in s
@@ -48,7 +48,7 @@ class Samples:
 
     def text(self):
         text = "".join(self.lines)
-        assert len(text) <= LIMIT, len(text)
+        assert len(text) <= self.most, len(text)
         return text
 
 

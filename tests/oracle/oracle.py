@@ -130,7 +130,9 @@ lax_body = Seq(
     Rep(Seq(pad, Rep(white)), 0, 2),
 )
 data_line = Seq(Rep(alpha, 1), blanks, end)
-final_line = Seq(Rep(alpha), Rep(pad, 0, 2), blanks, end)
+# Change request K9: the second pad may stand on the line behind the first. Before it, pads stood together.
+final_pads = Alt(Seq(pad, blanks, end, pad), Rep(pad, 0, 2))
+final_line = Seq(Rep(alpha), final_pads, blanks, end)
 standard_body = Seq(blanks, end, Rep(Alt(blank, end)), Rep(data_line), final_line)
 full_line = Seq(Rep(alpha, 64, 64), end)
 group = Rep(alpha, 4, 4)

@@ -6,9 +6,9 @@
 import random
 import sys
 
-from forms import BUFFER, Samples, examples, form, text_of
+from forms import BUFFER, TEXT_SAMPLES, Samples, examples, form, text_of
 
-samples = Samples()
+samples = Samples(TEXT_SAMPLES)
 comment = samples.comment
 
 
@@ -95,6 +95,26 @@ each("data-behind-pads", body(b"Zg==Zg==\n"))
 each("line-behind-pads", body(b"Zg==\nZg==\n"))
 each("not-alphabet", body(b"Zg-_\n"))
 each("dot", body(b"Zm9v.\n"))
+
+comment("Pads on two lines.")
+for name, pads in (
+        ("CRLF", b"=\r\n=\n"), ("CR", b"=\r=\n"), ("CR-CR", b"=\r=\r"), ("CRLF-CRLF", b"=\r\n=\r\n"), ("LF-CR", b"=\n\r=\n"),
+        ("CR-LF-LF", b"=\r\n\n=\n"), ("CR-SP-LF", b"=\r \n=\n"), ("blanks-behind-first", b"= \t\n=\n"),
+        ("blanks-behind-second", b"=\n=\t \n"), ("blanks-behind-both", b"=\t\r\n= \r\n"), ("line-of-their-own", b"\n=\n=\n"),
+        ("SP-before-second", b"=\n =\n"), ("HT-before-second", b"=\r\n\t=\n"), ("LF-before-second", b"=\n\n=\n"),
+        ("VT-before-second", b"=\n\v=\n"), ("VT-behind-first", b"=\v\n=\n"), ("SP-before-first", b" =\n=\n"),
+        ("no-line-end-behind", b"=\n="), ("LF-behind-second", b"=\n=\n\n"), ("SP-behind-line", b"=\n=\n "),
+        ("third-pad", b"=\n==\n"), ("third-pad-behind-SP", b"=\n= =\n"), ("third-line", b"=\n=\n=\n"),
+        ("third-pad-behind-two", b"==\n=\n"), ("A-behind-first", b"=\nA\n"), ("Zg==-behind-first", b"=\nZg==\n"),
+        ("A-behind-second", b"=\n=A\n"), ("hyphen-behind-first", b"=\n-=\n"), ("blanks-alone-behind-first", b"= \n")):
+    each("Zg-" + name, body(b"Zg" + pads))
+for name, b in (
+        ("Zh", b"Zh=\n=\n"), ("three-characters", b"Zm8=\n=\n"), ("four-characters", b"Zm9v=\n=\n"), ("pads-alone", b"=\n=\n"),
+        ("line-62", FULL[:61] + b"w=\n=\n"), ("line-64-2", FULL + b"\nZg=\n=\n"), ("line-64", FULL + b"=\n=\n"),
+        ("lines-behind-blank-line", b"\n\t\nZm9v\nZg=\r=\n")):
+    each(name + "-split", body(b))
+each("Zg=-LF-=", body(b"Zg=\n=\n"), room=0)
+each("closing-B-split", message(b"A", b"Zg=\n=\n", b"B"))
 
 comment("Labels.")
 each("label-64", message(b"L" * 64, b"Zg==\n"))
@@ -223,12 +243,16 @@ for n in (1, 2, 3, 47, 48, 49, 32768, 48367, 48368, 48369):
     for room in (n + 1, n, n - 1, 0) if n > 1 else (2, 1, 0):
         put("each", "data-%d" % n, t, room=room, count=max(lines, 1))
 
-comment("Every start of M, and of M with CRLF line ends.")
+comment("Every start of M, of M with CRLF line ends, and of M with pads on two lines from its body on.")
 for k in range(len(M)):
     each("M-%d-bytes" % k, M[:k], room=8)
 C = M.replace(b"\n", b"\r\n")
 for k in range(len(C)):
     each("CRLF-%d-bytes" % k, C[:k], room=8)
+
+S = body(b"Zg= \r\n=\t\r\n")
+for k in range(18, len(S)):
+    each("split-%d-bytes" % k, S[:k], room=8)
 
 comment("Every start of a text with a longer label, and of one with a full line, from the end of that line on.")
 L = message(b"A-B C", b"Zg==\n")
@@ -338,6 +362,10 @@ index("spare-bits", M + body(b"Zh==\n") + M)
 index("spare-bits-in-the-third", M + M + body(b"Zm9=\n"))
 index("begin", M + M.replace(b"BEGIN", b"begin"))
 index("pads", M + body(b"Zg===\n"))
+index("split-pads", M + body(b"Zg=\n=\n") + M)
+index("split-pads-at-the-end", M + body(b"Zg= \r=\r"))
+index("SP-before-the-second-pad", M + body(b"Zg=\n =\n"))
+index("cut-behind-the-first-pad", M + body(b"Zg=\n")[:22])
 index("sixth-hyphen", M + M[:17] + b"-" + M[17:])
 index("line-65", M + body(FULL + b"A\n"))
 index("labels-then-begin", message(b"A", b"Zg==\n", b"B") + M.replace(b"BEGIN", b"begin"))

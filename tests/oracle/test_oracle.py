@@ -26,7 +26,7 @@ TABLE = [
     ("no body, CRLF", b"-----BEGIN A-----\r\n-----END A-----\n", b"", (4, 19), (4, 19)),
     ("Zg=", body(b"Zg=\n"), (8, 22), (8, 22), (4, 21)),
     ("Zm 9v", body(b"Zm 9v\n"), b"foo", (4, 21), (4, 20)),
-    ("Zg=,=", body(b"Zg=\n=\n"), F, (4, 22), (4, 21)),
+    ("Zg=,=", body(b"Zg=\n=\n"), F, F, (4, 21)),
     ("Zg,==", body(b"Zg\n==\n"), F, F, (4, 20)),
     ("closing B", M[:32] + b"B" + M[33:], (7, 32), (7, 32), (7, 32)),
     ("sixth hyphen", M[:17] + b"-" + M[17:], (5, 18), (4, 17), (4, 17)),
@@ -34,6 +34,28 @@ TABLE = [
     ("begin", M.replace(b"BEGIN", b"begin"), (3, 5), (3, 5), (3, 5)),
     ("empty", b"", (3, 0), (3, 0), (3, 0)),
 ]
+# Change request K9: pads on two lines, by its words. The place under standard is the first byte that the words rule out.
+SPLIT = [
+    ("CRLF between", b"Zg=\r\n=\n", F, F, (4, 21)),
+    ("CR between", b"Zg=\r=\n", F, F, (4, 21)),
+    ("blanks behind both", b"Zg= \t\n= \n", F, F, (4, 21)),
+    ("no characters", b"Zg\n=\n=\n", F, F, (4, 20)),
+    ("SP before the second", b"Zg=\n =\n", F, (4, 22), (4, 21)),
+    ("LF before the second", b"Zg=\n\n=\n", F, (4, 22), (4, 21)),
+    ("CRLF LF between", b"Zg=\r\n\n=\n", F, (4, 23), (4, 21)),
+    ("CR SP LF between", b"Zg=\r \n=\n", F, (4, 22), (4, 21)),
+    ("VT before the second", b"Zg=\n\v=\n", F, (4, 22), (4, 21)),
+    ("VT behind the first", b"Zg=\v\n=\n", F, (4, 21), (4, 21)),
+    ("no line end", b"Zg=\n=", F, (4, 23), (4, 21)),
+    ("LF behind the second", b"Zg=\n=\n\n", F, (4, 24), (4, 21)),
+    ("third pad", b"Zg=\n==\n", (4, 23), (4, 23), (4, 21)),
+    ("third line", b"Zg=\n=\n=\n", (4, 24), (4, 24), (4, 21)),
+    ("third pad behind two", b"Zg==\n=\n", (4, 23), (4, 23), (4, 23)),
+    ("characters behind", b"Zg=\nZg==\n", (4, 22), (4, 22), (4, 21)),
+    ("one pad", b"Zm8=\n", b"fo", b"fo", b"fo"),
+    ("counts", b"Zm8=\n=\n", (8, 25), (8, 25), (4, 23)),
+]
+TABLE += [(name, body(b), *wants) for name, b, *wants in SPLIT]
 assert len(M) == 39
 for row in TABLE:
     for g in (1, 2, 3):
@@ -212,7 +234,8 @@ def many(a):
 
 
 LINE = chain(rep(A, 1, None), many(BL), E)
-FINAL = chain(many(A), rep(PAD, 0, 2), many(BL), E)
+PADS = alt(rep(PAD, 0, 2), chain(PAD, many(BL), E, PAD))
+FINAL = chain(many(A), PADS, many(BL), E)
 GROUP = rep(A, 4, 4)
 LAST = alt(GROUP, alt(seq(rep(A, 3, 3), PAD), chain(rep(A, 2, 2), PAD, PAD)))
 LATER = {
@@ -318,6 +341,11 @@ for t in BASES:
         check(t[:i])
 for _ in range(6000):
     check(damaged(random.choice(BASES), random.randint(1, 3)))
+
+# What may stand between a character and the closing: all of it, up to six bytes.
+for n in range(7):
+    for tail in itertools.product(b"= \n\rA", repeat=n):
+        check(body(b"Zg" + bytes(tail)))
 
 # Texts long enough to leap: one in 301 of them, and there are 64 edits at a place, so that each edit comes about.
 for t in itertools.islice(leaps.damaged(random.Random(7468)), 0, None, 301):

@@ -6,9 +6,9 @@ import random
 import sys
 
 import oracle
-from forms import BUFFER, RESERVED, Samples, examples, form, text_of
+from forms import BUFFER, RESERVED, WRITE_SAMPLES, Samples, examples, form, text_of
 
-samples = Samples()
+samples = Samples(WRITE_SAMPLES)
 comment = samples.comment
 
 

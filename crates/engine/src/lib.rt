@@ -302,6 +302,8 @@ fn standard_row(phase: StandardPhase) -> Row
     let blank_line = Phase::Standard(StandardPhase::BlankLine);
     let data = Phase::Standard(StandardPhase::Data);
     let one_pad = Phase::Standard(StandardPhase::OnePad);
+    let pad_trailing = Phase::Standard(StandardPhase::PadTrailing);
+    let pad_line = Phase::Standard(StandardPhase::PadLine);
     let trailing = Phase::Standard(StandardPhase::Trailing);
     let line = Phase::Standard(StandardPhase::Line);
     let ending = Phase::Standard(StandardPhase::Ending);
@@ -315,7 +317,9 @@ fn standard_row(phase: StandardPhase) -> Row
         StandardPhase::Data => ways(trailing, dead, line, data, one_pad, dead),
         StandardPhase::Trailing => ways(trailing, dead, line, dead, dead, dead),
         StandardPhase::Line => ways(ending, dead, final_line, data, one_pad, closing),
-        StandardPhase::OnePad => ways(ending, dead, final_line, dead, ending, dead),
+        StandardPhase::OnePad => ways(pad_trailing, dead, pad_line, dead, ending, dead),
+        StandardPhase::PadTrailing => ways(pad_trailing, dead, pad_line, dead, dead, dead),
+        StandardPhase::PadLine => ways(dead, dead, dead, dead, ending, closing),
         StandardPhase::Ending => ways(ending, dead, final_line, dead, dead, dead),
         StandardPhase::Final => ways(dead, dead, dead, dead, dead, closing),
         StandardPhase::Closed => ways(closed, dead, ended, dead, dead, dead),
@@ -483,6 +487,8 @@ fn standard_part(phase: StandardPhase) -> Part
         StandardPhase::Trailing => Part::Body,
         StandardPhase::Line => Part::Body,
         StandardPhase::OnePad => Part::Body,
+        StandardPhase::PadTrailing => Part::Body,
+        StandardPhase::PadLine => Part::Body,
         StandardPhase::Ending => Part::Body,
         StandardPhase::Final => Part::Body,
         StandardPhase::Closed => Part::After,

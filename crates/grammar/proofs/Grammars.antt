@@ -2,7 +2,7 @@
 -- standard body, a final line may be empty, a strict body has a group at least, and no line of it is over 64 characters.
 -- Assumes nothing.
 use mathlib.Core.Path.{_≡_, refl, sym, _∙_, subst, ap}
-use mathlib.Core.Logic.{_≢_, inl, inr}
+use mathlib.Core.Logic.{_≢_, _⊎_, inl, inr}
 use mathlib.Core.List.{List, [], _∷_, _++_, append-assoc, append-nil, head-eq-of-cons-eq, tail-eq-of-cons-eq, cons≢nil}
 use Prim.Native.Nat.{ℕ, zero, suc, _*_, _≤_, _<_}
 use native.Mathlib.Omega.{arith}
@@ -12,7 +12,7 @@ use Rattle.base64.specs.Alphabet.{AlphabetChar, pad}
 use Rattle.base64.proofs.Lists.{all-append, all-imp}
 use Rattle.grammar.specs.Marks.{LF, Blank, White, LineEnd, crlf, cr, lf}
 use Rattle.grammar.specs.Grammars.{Mixed, LaxPads, LaxBody, FinalLine, StandardLines, BlankLines, StandardBody, StandardAfter, lineChars, Groups, StrictLines, StrictBody}
-use Rattle.grammar.proofs.Marks.{NoHyphen, white-no-hyphen, alphabet-no-hyphen, pad-no-hyphen, blanks-white, end-white, end-some, end-head, end-lf, end-no-alphabet, blank-no-end}
+use Rattle.grammar.proofs.Marks.{pad-no-alphabet, NoHyphen, white-no-hyphen, white-no-pad, alphabet-no-hyphen, pad-no-hyphen, blanks-white, end-white, end-some, end-head, end-lf, end-unique, end-no-alphabet, blank-no-end, pad-no-end}
 
 -- ---- the shortest final line of standard is empty; one of strict has a group
 
@@ -31,6 +31,24 @@ strict-lines-long (StrictLines.line a e rest ha full he l) = omega (arith, full,
 
 pub strict-body-long : {b : List ℕ} → StrictBody b → 4 ≤ length b
 strict-body-long (StrictBody.strict e rest he l) = omega (arith, strict-lines-long l, length-append e rest)
+
+-- ---- pads on two lines
+
+-- The second pad may stand on the next line, and nothing else may.
+pub split-final-line : (a e : List ℕ) → All AlphabetChar a → LineEnd e (pad ∷ LF ∷ []) → FinalLine (a ++ (pad ∷ (e ++ (pad ∷ LF ∷ []))))
+split-final-line a e ha he = FinalLine.split a [] e [] (LF ∷ []) ha tt he tt lf
+
+pub behind-pad-line : {l e rest : List ℕ} → FinalLine l → LineEnd e rest → l ≡ pad ∷ (e ++ rest) → (rest ≡ []) ⊎ ((more : List ℕ) × (rest ≡ pad ∷ more))
+behind-pad-line (FinalLine.final (c ∷ a) p b f ha hp hb hf) he q = absurd (pad-no-alphabet (subst AlphabetChar (head-eq-of-cons-eq q) (ha .0)))
+behind-pad-line (FinalLine.final [] zero [] f ha hp hb hf) he q = absurd (pad-no-end (end-head hf [] (append-nil f ∙ q)))
+behind-pad-line (FinalLine.final [] zero (c ∷ b) f ha hp hb hf) he q = absurd (white-no-pad c (inl (hb .0)) (head-eq-of-cons-eq q))
+behind-pad-line (FinalLine.final [] (suc zero) [] f ha hp hb hf) he q = inl (sym (end-unique hf he (append-nil f ∙ tail-eq-of-cons-eq q)))
+behind-pad-line {rest = rest} (FinalLine.final [] (suc zero) (c ∷ b) f ha hp hb hf) he q = absurd (blank-no-end (hb .0) (end-head he rest (sym (tail-eq-of-cons-eq q))))
+behind-pad-line {rest = rest} (FinalLine.final [] (suc (suc zero)) b f ha hp hb hf) he q = absurd (pad-no-end (end-head he rest (sym (tail-eq-of-cons-eq q))))
+behind-pad-line (FinalLine.final [] (suc (suc (suc p))) b f ha hp hb hf) he q = absurd (omega arith)
+behind-pad-line (FinalLine.split (d ∷ a) b e c f ha hb he hc hf) hend q = absurd (pad-no-alphabet (subst AlphabetChar (head-eq-of-cons-eq q) (ha .0)))
+behind-pad-line (FinalLine.split [] [] e c f ha hb he hc hf) hend q = inr (c ++ f, sym (end-unique he hend (tail-eq-of-cons-eq q)))
+behind-pad-line {rest = rest} (FinalLine.split [] (d ∷ b) e c f ha hb he hc hf) hend q = absurd (blank-no-end (hb .0) (end-head hend rest (sym (tail-eq-of-cons-eq q))))
 
 -- ---- no hyphen in a lax body
 
@@ -79,6 +97,9 @@ pads-lax (suc (suc (suc p))) w hp hw = absurd (omega arith)
 final-line-lax : {f : List ℕ} → FinalLine f → LaxBody f
 final-line-lax (FinalLine.final a p b e ha hp hb he) =
     mixed-then a (alphabet-mixed a ha) (pads-lax p (b ++ e) hp (blanks-end-white b hb he))
+final-line-lax (FinalLine.split a b e c f ha hb he hc hf) =
+    let two : LaxPads (pad ∷ ((b ++ e) ++ (pad ∷ (c ++ f)))) = LaxPads.two (b ++ e) (c ++ f) (blanks-end-white b hb he) (blanks-end-white c hc hf) in
+    mixed-then a (alphabet-mixed a ha) (LaxBody.lax [] _ tt (rw append-assoc at two))
 
 lines-lax : {l : List ℕ} → StandardLines l → LaxBody l
 lines-lax (StandardLines.final f) = final-line-lax f
@@ -104,6 +125,9 @@ alphabet-then : (a : List ℕ) {f : List ℕ} → All AlphabetChar a → FinalLi
 alphabet-then a h (FinalLine.final n p b e hn hp hb he) =
     subst FinalLine (append-assoc a n (replicate p pad ++ (b ++ e)))
     (FinalLine.final (a ++ n) p b e (all-append AlphabetChar a n h hn) hp hb he)
+alphabet-then a h (FinalLine.split n b e c f hn hb he hc hf) =
+    subst FinalLine (append-assoc a n (pad ∷ (b ++ (e ++ (pad ∷ (c ++ f))))))
+    (FinalLine.split (a ++ n) b e c f (all-append AlphabetChar a n h hn) hb he hc hf)
 
 groups-final-line : {n : ℕ} {g : List ℕ} (e : List ℕ) → Groups n g → LineEnd e [] → FinalLine (g ++ e)
 groups-final-line e (Groups.four {a} {b} {c} {d} ha hb hc hd) he =
@@ -134,6 +158,7 @@ append-none (x ∷ a) b e = absurd (cons≢nil e)
 lines-some : {l : List ℕ} → StandardLines l → l ≢ []
 lines-some (StandardLines.final (FinalLine.final a p b e ha hp hb he)) z =
     end-some he [] (append-nil e ∙ append-none b e (append-none (replicate p pad) (b ++ e) (append-none a (replicate p pad ++ (b ++ e)) z)))
+lines-some (StandardLines.final (FinalLine.split a b e c f ha hb he hc hf)) z = cons≢nil (append-none a (pad ∷ (b ++ (e ++ (pad ∷ (c ++ f))))) z)
 lines-some (StandardLines.line a b e rest some ha hb he l) z = end-some he rest (append-none b (e ++ rest) (append-none a (b ++ (e ++ rest)) z))
 
 blank-lines-some : {l : List ℕ} → BlankLines l → l ≢ []
@@ -141,17 +166,9 @@ blank-lines-some (BlankLines.lines l) z = lines-some l z
 blank-lines-some (BlankLines.blank h l) z = cons≢nil z
 blank-lines-some (BlankLines.line-end e rest he l) z = end-some he rest z
 
--- The line end of the opening takes the whole of it. For CRLF it is the rule that CR alone, with LF behind it, is none.
+-- The line end of the opening takes the whole of it.
 ends-once : {d e rest : List ℕ} → LineEnd d rest → BlankLines rest → LineEnd e [] → d ++ rest ≡ e → ⊥
-ends-once crlf l crlf z = blank-lines-some l (tail-eq-of-cons-eq (tail-eq-of-cons-eq z))
-ends-once crlf l (cr h) z = cons≢nil (tail-eq-of-cons-eq z)
-ends-once crlf l lf z = cons≢nil (tail-eq-of-cons-eq z)
-ends-once (cr h) l crlf z = h [] (tail-eq-of-cons-eq z)
-ends-once (cr h) l (cr k) z = blank-lines-some l (tail-eq-of-cons-eq z)
-ends-once (cr h) l lf z = blank-lines-some l (tail-eq-of-cons-eq z)
-ends-once lf l crlf z = let k : _≡_ {A = ℕ} 10 13 = head-eq-of-cons-eq z in omega arith
-ends-once lf l (cr k) z = blank-lines-some l (tail-eq-of-cons-eq z)
-ends-once lf l lf z = blank-lines-some l (tail-eq-of-cons-eq z)
+ends-once {e = e} hd l he z = blank-lines-some l (end-unique hd he (z ∙ sym (append-nil e)))
 
 pub one-end-no-body : {b e : List ℕ} → StandardBody b → LineEnd e [] → b ≡ e → ⊥
 one-end-no-body (StandardBody.standard [] e rest hb he l) h z = ends-once he l h z

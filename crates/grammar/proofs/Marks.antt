@@ -81,11 +81,25 @@ end-lf crlf x e = let k : CR ≡ LF = head-eq-of-cons-eq e in absurd (omega arit
 end-lf (cr h) x e = let k : CR ≡ LF = head-eq-of-cons-eq e in absurd (omega arith)
 end-lf lf x e = tail-eq-of-cons-eq e
 
+-- A line end is cut off in one way only. For CRLF it is the rule that CR alone, with LF behind it, is none.
+pub end-unique : {e f x y : List ℕ} → LineEnd e x → LineEnd f y → e ++ x ≡ f ++ y → x ≡ y
+end-unique crlf crlf q = tail-eq-of-cons-eq (tail-eq-of-cons-eq q)
+end-unique {x = x} crlf (cr k) q = absurd (k x (sym (tail-eq-of-cons-eq q)))
+end-unique {x = x} crlf lf q = end-lf {rest = x} crlf x q
+end-unique {y = y} (cr h) crlf q = absurd (h y (tail-eq-of-cons-eq q))
+end-unique (cr h) (cr k) q = tail-eq-of-cons-eq q
+end-unique {x = x} (cr h) lf q = end-lf (cr h) x q
+end-unique {y = y} lf k q = sym (end-lf k y (sym q))
+
 pub blank-no-end : {c : ℕ} → Blank c → (c ≡ CR) ⊎ (c ≡ LF) → ⊥
 blank-no-end (inl h) (inl e) = omega arith
 blank-no-end (inl h) (inr e) = omega arith
 blank-no-end (inr h) (inl e) = omega arith
 blank-no-end (inr h) (inr e) = omega arith
+
+pub pad-no-end : ¬ ((pad ≡ CR) ⊎ (pad ≡ LF))
+pad-no-end (inl e) = omega arith
+pad-no-end (inr e) = omega arith
 
 -- ---- labels
 

@@ -18,7 +18,7 @@ use Rattle.grammar.specs.declared.Grammar.{Grammar}
 use Rattle.grammar.specs.declared.Grammar.the-variants.{Lax, Standard, Strict}
 use Rattle.grammar.proofs.Runs.{run-unique}
 use Rattle.grammar.proofs.Marks.{empty-label, end-some, label-unique}
-use Rattle.grammar.proofs.Grammars.{empty-final-line, strict-body-long, strict-body-standard, standard-body-lax, strict-body-short}
+use Rattle.grammar.proofs.Grammars.{empty-final-line, split-final-line, behind-pad-line, strict-body-long, strict-body-standard, standard-body-lax, strict-body-short}
 use Rattle.grammar.proofs.Counts.{lax-body-pads}
 use Rattle.grammar.proofs.Message.{strict-standard, shape-widens, shape-lax, consistent-widens, no-white-hyphen, text-then, reading-unique}
 use Rattle.grammar.proofs.Bundle.{strict-bundle, readings-unique}
@@ -170,6 +170,20 @@ third-pad : ¬ Body Lax (10 ∷ 90 ∷ 103 ∷ 61 ∷ 61 ∷ 61 ∷ 10 ∷ [])
 unfolding padCount
 third-pad h = omega (arith, lax-body-pads h)
 
+-- ---- pads on two lines
+
+split-body : StandardBody (10 ∷ 90 ∷ 103 ∷ 61 ∷ 10 ∷ 61 ∷ 10 ∷ [])
+unfolding valueOf placeIn alphabet
+split-body =
+    StandardBody.standard [] (10 ∷ []) (90 ∷ 103 ∷ 61 ∷ 10 ∷ 61 ∷ 10 ∷ []) tt lf
+    (BlankLines.lines (StandardLines.final (split-final-line (90 ∷ 103 ∷ []) (10 ∷ []) (lit< tt, (lit< tt, tt)) lf)))
+
+split-pads : Message Standard (around (10 ∷ 90 ∷ 103 ∷ 61 ∷ 10 ∷ 61 ∷ 10 ∷ [])) (65 ∷ []) (102 ∷ [])
+unfolding valueOf placeIn alphabet characters padCount
+split-pads =
+    let body : List ℕ = 10 ∷ 90 ∷ 103 ∷ 61 ∷ 10 ∷ 61 ∷ 10 ∷ [] in
+    message Standard (closed body) (closed-shape Standard body split-body) record { labels = refl; counts = inr (inl (refl, refl)); spare = tt }
+
 -- ---- full lines
 
 letter-A : AlphabetChar 65
@@ -286,6 +300,8 @@ samples = record {
   emptyLine = empty-line;
   emptyLineStrict = empty-line-strict;
   thirdPad = third-pad;
+  splitPads = split-pads;
+  secondPad = λ e rest he l. behind-pad-line l he refl;
   fullLine = full-line;
   fullLastLine = full-last-line;
   longLine = long-line;

@@ -56,11 +56,15 @@ pub data LaxBody : List ℕ → Type 0 where
 --     RFC 7468, figure 1:  textualmsg = preeb *WSP eol *eolWSP base64text posteb *WSP [eol]
 --                          base64text = *base64line base64finl
 
--- A final line: zero or more alphabet characters, zero to two pads standing together, blanks, line end.
---     base64finl = *base64char *2base64pad *WSP eol  (the RFC's pads on two lines are left out)
+-- A final line: zero or more alphabet characters; then zero to two pads standing together, or one pad, blanks, a line end and the
+-- second pad; then blanks, line end. (K9; before it, "zero to two pads standing together" only.)
+--     base64finl = *base64char (base64pad *WSP eol base64pad / *2base64pad) *WSP eol
+--                                           ; ...AB= <EOL> = <EOL> is not good, but is valid
 pub data FinalLine : List ℕ → Type 0 where
   final : (a : List ℕ) (p : ℕ) (b e : List ℕ) → All AlphabetChar a → p ≤ 2 → All Blank b → LineEnd e []
       → FinalLine (a ++ (replicate p pad ++ (b ++ e)))
+  split : (a b e c f : List ℕ) → All AlphabetChar a → All Blank b → LineEnd e (pad ∷ (c ++ f)) → All Blank c → LineEnd f []
+      → FinalLine (a ++ (pad ∷ (b ++ (e ++ (pad ∷ (c ++ f))))))
 
 -- Data lines, each of one or more alphabet characters, blanks and a line end; then the final line.
 --     base64line = 1*base64char *WSP eol

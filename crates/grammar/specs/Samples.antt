@@ -1,9 +1,13 @@
 -- Texts of the requirements' samples, spelled out in bytes, and what the grammars by themselves make of labels, lines, pads and
 -- bundles. The rows of the table stand with the reader, whose numbers and places they have. Assumes nothing.
+use mathlib.Core.Path.{_≡_}
+use mathlib.Core.Logic.{_⊎_}
 use mathlib.Core.List.{List, [], _∷_, _++_}
 use Prim.Native.Nat.{ℕ}
 use lib.ListN.{replicate}
-use Rattle.grammar.specs.Grammars.{Body}
+use Rattle.base64.specs.Alphabet.{pad}
+use Rattle.grammar.specs.Marks.{LineEnd}
+use Rattle.grammar.specs.Grammars.{FinalLine, Body}
 use Rattle.grammar.specs.Message.{Message}
 use Rattle.grammar.specs.Bundle.{Item, Bundle}
 use Rattle.grammar.specs.declared.Grammar.{Grammar}
@@ -65,6 +69,9 @@ pub record Samples : Type 0 where
   pub emptyLineStrict : (label content : List ℕ) → ¬ Message Strict (around (10 ∷ 10 ∷ [])) label content
   -- `Zg===`: three pads, even under lax
   pub thirdPad : ¬ Body Lax (10 ∷ 90 ∷ 103 ∷ 61 ∷ 61 ∷ 61 ∷ 10 ∷ [])
+  -- `Zg=`, LF, `=`: pads on two lines; behind a first pad and its line end nothing stands but the second
+  pub splitPads : Message Standard (around (10 ∷ 90 ∷ 103 ∷ 61 ∷ 10 ∷ 61 ∷ 10 ∷ [])) (65 ∷ []) (102 ∷ [])
+  pub secondPad : (e rest : List ℕ) → LineEnd e rest → FinalLine (pad ∷ (e ++ rest)) → (rest ≡ []) ⊎ ((more : List ℕ) × (rest ≡ pad ∷ more))
   -- a line of 64 characters before a last line, and as the last line
   pub fullLine : Message Strict (around (10 ∷ (replicate 64 65 ++ (10 ∷ 90 ∷ 103 ∷ 61 ∷ 61 ∷ 10 ∷ [])))) (65 ∷ []) (replicate 48 0 ++ (102 ∷ []))
   pub fullLastLine : Message Strict (around (10 ∷ (replicate 64 65 ++ (10 ∷ [])))) (65 ∷ []) (replicate 48 0)

@@ -60,10 +60,17 @@ Ending l = EndThen (λ r. r ≡ []) l
 abbrev pub Trailing : List ℕ → Type 0
 Trailing l = EndThen (λ r. (r ≡ []) ⊎ StandardLines r) l
 
+-- The second pad, and the end of the final line.
+pub data SecondPad : List ℕ → Type 0 where
+  second : {l : List ℕ} → Ending l → SecondPad (pad ∷ l)
+
+-- The end of a line that has one pad: that of the final line, or the second pad stands on the next.
+abbrev pub PadTrailing : List ℕ → Type 0
+PadTrailing l = EndThen (λ r. (r ≡ []) ⊎ SecondPad r) l
+
 -- Behind the first pad.
-pub data Padded : List ℕ → Type 0 where
-  last : {l : List ℕ} → Ending l → Padded l
-  more : {l : List ℕ} → Ending l → Padded (pad ∷ l)
+abbrev pub Padded : List ℕ → Type 0
+Padded l = PadTrailing l ⊎ SecondPad l
 
 -- Behind an alphabet character: more of them; then the rest of the line, or pads and the rest of the final line.
 pub data Chars : List ℕ → Type 0 where
@@ -78,6 +85,8 @@ StandardRest standard.Data l = Chars l
 StandardRest standard.Trailing l = Trailing l
 StandardRest standard.Line l = (l ≡ []) ⊎ StandardLines l
 StandardRest standard.OnePad l = Padded l
+StandardRest standard.PadTrailing l = PadTrailing l
+StandardRest standard.PadLine l = (l ≡ []) ⊎ SecondPad l
 StandardRest standard.Ending l = Ending l
 StandardRest standard.Final l = l ≡ []
 StandardRest standard.Closed l = ⊥
@@ -134,6 +143,8 @@ StandardAfterRest standard.Data l = ⊥
 StandardAfterRest standard.Trailing l = ⊥
 StandardAfterRest standard.Line l = ⊥
 StandardAfterRest standard.OnePad l = ⊥
+StandardAfterRest standard.PadTrailing l = ⊥
+StandardAfterRest standard.PadLine l = ⊥
 StandardAfterRest standard.Ending l = ⊥
 StandardAfterRest standard.Final l = ⊥
 StandardAfterRest standard.Closed l = StandardAfter l

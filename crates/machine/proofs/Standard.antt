@@ -18,7 +18,7 @@ use Rattle.machine.specs.declared.StandardPhase.the-variants as standard
 use Rattle.machine.specs.declared.Phase.the-variants.{Standard}
 use Rattle.machine.specs.declared.Part.the-variants as part
 use Rattle.machine.proofs.Runs.{row-takes, chars-close}
-use Rattle.machine.proofs.Bodies.{seenBehind, EndThen, end-then, Ending, Padded, Chars, BodyRest, AfterRest, Closes, Way, ToClosing}
+use Rattle.machine.proofs.Bodies.{seenBehind, EndThen, end-then, Ending, SecondPad, second, Padded, Chars, BodyRest, AfterRest, Closes, Way, ToClosing}
 use Rattle.machine.proofs.LineEnds.{line-end-last, line-end-closes, line-end-accepted}
 use Rattle.machine.proofs.Rows.{Byte, byte, Pad, dead, live, never, Columns, columns, none, off, row-move, move-before, move-after, move-way, row-accepting, after-no-body}
 
@@ -38,8 +38,10 @@ final-line a k ha hk (end-then b e l hb he q) = StandardLines.final (FinalLine.f
 
 -- The final line, from behind its first pad.
 padded-line : (a : List ℕ) {l : List ℕ} → All AlphabetChar a → Padded l → StandardLines (a ++ (pad ∷ l))
-padded-line a ha (Padded.last h) = final-line a 1 ha (omega arith) h
-padded-line a ha (Padded.more h) = final-line a 2 ha (omega arith) h
+padded-line a ha (inl (end-then b e l hb he (inl q))) = final-line a 1 ha (omega arith) (end-then b e l hb he q)
+padded-line a ha (inl (end-then b e _ hb he (inr (second (end-then c f l hc hf q))))) =
+    StandardLines.final (FinalLine.split a b e c (f ++ l) ha hb he hc (line-end-last f l hf q))
+padded-line a ha (inr (second h)) = final-line a 2 ha (omega arith) h
 
 -- The final line may be pads alone.
 lines-pad : (e l : List ℕ) → Byte Pad e l → Padded l → StandardLines (e ++ l)
@@ -65,8 +67,8 @@ chars-pad : (e l : List ℕ) → Byte Pad e l → Padded l → Chars (e ++ l)
 chars-pad _ l (byte q) w = rw q (Chars.padded [] l tt w)
 
 -- The second pad.
-padded-pad : (e l : List ℕ) → Byte Pad e l → Ending l → Padded (e ++ l)
-padded-pad _ _ (byte q) h = rw q (Padded.more h)
+second-pad : (e l : List ℕ) → Byte Pad e l → Ending l → SecondPad (e ++ l)
+second-pad _ _ (byte q) h = rw q (second h)
 
 -- A blank in front of the lines.
 blank-lines-blank : (e l : List ℕ) → Byte Blank e l → BlankLines l → BlankLines (e ++ l)
@@ -116,9 +118,13 @@ standard-columns standard.Line =
     (live refl (λ e l h w. inr (lines-char e l h w)) (never _))
     (live refl (λ e l h w. inr (lines-pad e l h w)) (never _)) (off refl refl (inl refl)) false≢true
 standard-columns standard.OnePad =
-    columns (live refl (λ e l h w. Padded.last (end-blank e l h w)) (never _)) (dead refl)
-    (live refl (λ e l h w. Padded.last (end-first e l h w)) (never _))
-    (dead refl) (live refl padded-pad (never _)) (none refl) false≢true
+    columns (live refl (λ e l h w. inl (end-blank e l h w)) (never _)) (dead refl)
+    (live refl (λ e l h w. inl (end-first e l h w)) (never _))
+    (dead refl) (live refl (λ e l h w. inr (second-pad e l h w)) (never _)) (none refl) false≢true
+standard-columns standard.PadTrailing =
+    columns (live refl end-blank (never _)) (dead refl) (live refl end-first (never _)) (dead refl) (dead refl) (none refl) false≢true
+standard-columns standard.PadLine =
+    columns (dead refl) (dead refl) (dead refl) (dead refl) (live refl (λ e l h w. inr (second-pad e l h w)) (never _)) (off refl refl (inl refl)) false≢true
 standard-columns standard.Ending =
     columns (live refl end-blank (never _)) (dead refl) (live refl end-first (never _)) (dead refl) (dead refl) (none refl) false≢true
 standard-columns standard.Final = columns (dead refl) (dead refl) (dead refl) (dead refl) (dead refl) (off refl refl refl) false≢true
@@ -154,6 +160,8 @@ standard-way g standard.Data e = record { bytes = LF ∷ []; closes = λ z. refl
 standard-way g standard.Trailing e = record { bytes = LF ∷ []; closes = λ z. refl }
 standard-way g standard.Line e = record { bytes = []; closes = λ z. refl }
 standard-way g standard.OnePad e = record { bytes = LF ∷ []; closes = λ z. refl }
+standard-way g standard.PadTrailing e = record { bytes = LF ∷ []; closes = λ z. refl }
+standard-way g standard.PadLine e = record { bytes = []; closes = λ z. refl }
 standard-way g standard.Ending e = record { bytes = LF ∷ []; closes = λ z. refl }
 standard-way g standard.Final e = record { bytes = []; closes = λ z. refl }
 standard-way g standard.Closed e = absurd (after-no-body e)
@@ -208,9 +216,16 @@ module _ (g : Grammar) where
   -- At most two pads and the end of the final line.
   pads-close : (p : StandardPhase) → Start p → (k : ℕ) (b e : List ℕ) → k ≤ 2 → All Blank b → LineEnd e [] → Closes g (Standard p) (replicate k pad ++ (b ++ e))
   pads-close p s zero b e hk hb he = s .ends b e hb he
-  pads-close p s (suc zero) b e hk hb he = λ z. rw (s .pad, run) (phase-ends standard.OnePad standard.Ending refl refl refl (λ z. refl) b e hb he z)
+  pads-close p s (suc zero) b e hk hb he = λ z. rw (s .pad, run) (phase-ends standard.OnePad standard.PadTrailing refl refl refl (λ z. refl) b e hb he z)
   pads-close p s (suc (suc zero)) b e hk hb he = λ z. rw (s .pad, run) (phase-ends standard.Ending standard.Ending refl refl refl (λ z. refl) b e hb he z)
   pads-close p s (suc (suc (suc k))) b e hk hb he = absurd (omega arith)
+
+  -- Pads on two lines and the end of the final line.
+  split-closes : (p : StandardPhase) → Start p → (b e c f : List ℕ) → All Blank b → LineEnd e (pad ∷ (c ++ f)) → All Blank c → LineEnd f []
+      → Closes g (Standard p) (pad ∷ (b ++ (e ++ (pad ∷ (c ++ f)))))
+  split-closes p s b e c f hb he hc hf = λ z. rw (s .pad, run)
+      (line-closes standard.OnePad standard.PadTrailing refl refl refl b e (pad ∷ (c ++ f)) hb he
+      (phase-ends standard.Ending standard.Ending refl refl refl (λ y. refl) c f hc hf) z)
 
   -- One or more alphabet characters.
   data-closes : (p : StandardPhase) → Start p → (c : ℕ) (a l : List ℕ) → All AlphabetChar (c ∷ a) → Closes g (Standard standard.Data) l
@@ -224,6 +239,9 @@ module _ (g : Grammar) where
   lines-close p s (StandardLines.final (FinalLine.final [] k b e ha hk hb he)) = pads-close p s k b e hk hb he
   lines-close p s (StandardLines.final (FinalLine.final (c ∷ a) k b e ha hk hb he)) =
       data-closes p s c a (replicate k pad ++ (b ++ e)) ha (pads-close standard.Data data-start k b e hk hb he)
+  lines-close p s (StandardLines.final (FinalLine.split [] b e c f ha hb he hc hf)) = split-closes p s b e c f hb he hc hf
+  lines-close p s (StandardLines.final (FinalLine.split (d ∷ a) b e c f ha hb he hc hf)) =
+      data-closes p s d a (pad ∷ (b ++ (e ++ (pad ∷ (c ++ f))))) ha (split-closes standard.Data data-start b e c f hb he hc hf)
   lines-close p s (StandardLines.line [] b e l n ha hb he w) = absurd (n refl)
   lines-close p s (StandardLines.line (c ∷ a) b e l n ha hb he w) =
       data-closes p s c a (b ++ (e ++ l)) ha (line-closes standard.Data standard.Trailing refl refl refl b e l hb he (lines-close standard.Line line-start w))

@@ -68,6 +68,10 @@ pub enum StandardPhase {
     Line,
     // The first pad.
     OnePad,
+    // The first pad, then blanks.
+    PadTrailing,
+    // The first pad, with its line end: it may be that of the final line.
+    PadLine,
     // Both pads, or blanks of the final line.
     Ending,
     // The final line.

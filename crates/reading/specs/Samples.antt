@@ -1,4 +1,5 @@
--- The counter samples of the requirements: the rows marked *, as one list under one claim. Assumes nothing.
+-- The counter samples: the rows of the requirements marked *, and those of pads on two lines, as one list under one claim.
+-- Assumes nothing.
 use mathlib.Core.List.{List, [], _∷_, _++_}
 use Prim.Native.Nat.{ℕ, _-_}
 use lib.ListN.{length, replicate}
@@ -66,6 +67,7 @@ no8 n = refused (BadCounts (offset n))
 abbrev pub no9 : ℕ → Outcome
 no9 n = refused (SpareBits (offset n))
 
+-- The rows of the requirements.
 abbrev pub rows : List (Row Outcome)
 rows =
     -- M
@@ -84,8 +86,8 @@ rows =
     ∷ row (around (10 ∷ 90 ∷ 103 ∷ 61 ∷ 10 ∷ [])) (no8 22) (no8 22) (no4 21)
     -- M with `Zm 9v`
     ∷ row (around (10 ∷ 90 ∷ 109 ∷ 32 ∷ 57 ∷ 118 ∷ 10 ∷ [])) (accepted (102 ∷ 111 ∷ 111 ∷ [])) (no4 21) (no4 20)
-    -- M with `Zg=`, LF, `=`
-    ∷ row (around (10 ∷ 90 ∷ 103 ∷ 61 ∷ 10 ∷ 61 ∷ 10 ∷ [])) (accepted (102 ∷ [])) (no4 22) (no4 21)
+    -- M with `Zg=`, LF, `=` (K9; before it, 4 at 22 under standard)
+    ∷ row (around (10 ∷ 90 ∷ 103 ∷ 61 ∷ 10 ∷ 61 ∷ 10 ∷ [])) (accepted (102 ∷ [])) (accepted (102 ∷ [])) (no4 21)
     -- M closing with B
     ∷ row (beginA ++ (10 ∷ 90 ∷ 103 ∷ 61 ∷ 61 ∷ 10 ∷ (endB ++ (10 ∷ [])))) (no7 32) (no7 32) (no7 32)
     -- M, sixth hyphen on opening
@@ -94,6 +96,43 @@ rows =
     ∷ row [] (no3 0) (no3 0) (no3 0)
     ∷ []
 
+-- K9: pads on two lines, in place of M's `Zg==`.
+abbrev pub splitPads : List (Row Outcome)
+splitPads =
+    -- `Zg=`, CRLF, `=`
+    row (around (10 ∷ 90 ∷ 103 ∷ 61 ∷ 13 ∷ 10 ∷ 61 ∷ 10 ∷ [])) (accepted (102 ∷ [])) (accepted (102 ∷ [])) (no4 21)
+    -- `Zg=`, CR, `=`
+    ∷ row (around (10 ∷ 90 ∷ 103 ∷ 61 ∷ 13 ∷ 61 ∷ 10 ∷ [])) (accepted (102 ∷ [])) (accepted (102 ∷ [])) (no4 21)
+    -- `Zg=`, SP, HT, LF, `=`, SP
+    ∷ row (around (10 ∷ 90 ∷ 103 ∷ 61 ∷ 32 ∷ 9 ∷ 10 ∷ 61 ∷ 32 ∷ 10 ∷ [])) (accepted (102 ∷ [])) (accepted (102 ∷ [])) (no4 21)
+    -- `Zg`, LF, `=`, LF, `=`: the final line has no characters
+    ∷ row (around (10 ∷ 90 ∷ 103 ∷ 10 ∷ 61 ∷ 10 ∷ 61 ∷ 10 ∷ [])) (accepted (102 ∷ [])) (accepted (102 ∷ [])) (no4 20)
+    -- `Zg=`, LF, SP, `=`: a blank before the second pad
+    ∷ row (around (10 ∷ 90 ∷ 103 ∷ 61 ∷ 10 ∷ 32 ∷ 61 ∷ 10 ∷ [])) (accepted (102 ∷ [])) (no4 22) (no4 21)
+    -- `Zg=`, LF, LF, `=`: a line end before it
+    ∷ row (around (10 ∷ 90 ∷ 103 ∷ 61 ∷ 10 ∷ 10 ∷ 61 ∷ 10 ∷ [])) (accepted (102 ∷ [])) (no4 22) (no4 21)
+    -- `Zg=`, CRLF, LF, `=`
+    ∷ row (around (10 ∷ 90 ∷ 103 ∷ 61 ∷ 13 ∷ 10 ∷ 10 ∷ 61 ∷ 10 ∷ [])) (accepted (102 ∷ [])) (no4 23) (no4 21)
+    -- `Zg=`, CR, SP, LF, `=`
+    ∷ row (around (10 ∷ 90 ∷ 103 ∷ 61 ∷ 13 ∷ 32 ∷ 10 ∷ 61 ∷ 10 ∷ [])) (accepted (102 ∷ [])) (no4 22) (no4 21)
+    -- `Zg=`, LF, VT, `=`
+    ∷ row (around (10 ∷ 90 ∷ 103 ∷ 61 ∷ 10 ∷ 11 ∷ 61 ∷ 10 ∷ [])) (accepted (102 ∷ [])) (no4 22) (no4 21)
+    -- `Zg=`, LF, `=`, and no line end
+    ∷ row (around (10 ∷ 90 ∷ 103 ∷ 61 ∷ 10 ∷ 61 ∷ [])) (accepted (102 ∷ [])) (no4 23) (no4 21)
+    -- `Zg=`, LF, `==`: a third pad
+    ∷ row (around (10 ∷ 90 ∷ 103 ∷ 61 ∷ 10 ∷ 61 ∷ 61 ∷ 10 ∷ [])) (no4 23) (no4 23) (no4 21)
+    -- `Zg=`, LF, `=`, LF, `=`
+    ∷ row (around (10 ∷ 90 ∷ 103 ∷ 61 ∷ 10 ∷ 61 ∷ 10 ∷ 61 ∷ 10 ∷ [])) (no4 24) (no4 24) (no4 21)
+    -- `Zg==`, LF, `=`
+    ∷ row (around (10 ∷ 90 ∷ 103 ∷ 61 ∷ 61 ∷ 10 ∷ 61 ∷ 10 ∷ [])) (no4 23) (no4 23) (no4 23)
+    -- `Zg=`, LF, `Zg==`: characters behind the first pad's line
+    ∷ row (around (10 ∷ 90 ∷ 103 ∷ 61 ∷ 10 ∷ 90 ∷ 103 ∷ 61 ∷ 61 ∷ 10 ∷ [])) (no4 22) (no4 22) (no4 21)
+    -- `Zm8=`: the line end behind one pad is that of the final line
+    ∷ row (around (10 ∷ 90 ∷ 109 ∷ 56 ∷ 61 ∷ 10 ∷ [])) (accepted (102 ∷ 111 ∷ [])) (accepted (102 ∷ 111 ∷ [])) (accepted (102 ∷ 111 ∷ []))
+    -- `Zm8=`, LF, `=`: two pads that do not fit
+    ∷ row (around (10 ∷ 90 ∷ 109 ∷ 56 ∷ 61 ∷ 10 ∷ 61 ∷ 10 ∷ [])) (no8 25) (no8 25) (no4 23)
+    ∷ []
+
 -- The claim.
 abbrev pub Samples : Type 0
-Samples = All (RowHolds Holds) rows
+Samples = All (RowHolds Holds) (rows ++ splitPads)

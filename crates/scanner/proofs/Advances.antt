@@ -219,15 +219,15 @@ module _ {g : Grammar} {text : List ℕ} where
       (advanced-then later (advanced-line-end end (padsTallied 2 t) (i + 2) e some))
 
 -- The pads that each grammar takes.
-pub lax-one-pad : (g : Grammar) → OnPads g (Lax lax.Data) 1 (Lax lax.OnePad)
+lax-one-pad : (g : Grammar) → OnPads g (Lax lax.Data) 1 (Lax lax.OnePad)
 lax-one-pad g = one-pad (record { from = refl; to = refl; alive = refl; takes = refl }) (record { from = refl; to = refl; alive = refl; lf = refl; cr = refl })
 
-pub lax-two-pads : (g : Grammar) → OnPads g (Lax lax.Data) 2 (Lax lax.TwoPads)
+lax-two-pads : (g : Grammar) → OnPads g (Lax lax.Data) 2 (Lax lax.TwoPads)
 lax-two-pads g =
     two-pads {a = Lax lax.OnePad} (record { from = refl; to = refl; alive = refl; takes = refl }) (record { from = refl; to = refl; alive = refl; takes = refl })
     (record { from = refl; to = refl; alive = refl; lf = refl; cr = refl })
 
-standard-one-pad : (g : Grammar) → OnPads g (Standard standard.Data) 1 (Standard standard.Final)
+standard-one-pad : (g : Grammar) → OnPads g (Standard standard.Data) 1 (Standard standard.PadLine)
 standard-one-pad g = one-pad {a = Standard standard.OnePad} (record { from = refl; to = refl; alive = refl; takes = refl }) (record { from = refl; to = refl; alive = refl; lf = refl; cr = refl })
 
 standard-two-pads : (g : Grammar) → OnPads g (Standard standard.Data) 2 (Standard standard.Final)
@@ -252,8 +252,15 @@ one-or-two P p q n some few = go (eqb n 1) refl
     go true e = rw (eqb-true n 1 e) p
     go false e = let other : n ≢ 1 = eqb-false n 1 e in let two : n ≡ 2 = omega arith in rw two q
 
-pub standard-pads : (g : Grammar) (n : ℕ) → 0 < n → n ≤ 2 → OnPads g (Standard standard.Data) n (Standard standard.Final)
-standard-pads g = one-or-two (λ n. OnPads g (Standard standard.Data) n (Standard standard.Final)) (standard-one-pad g) (standard-two-pads g)
+-- The phase behind one pad, or behind two.
+by-pads : {g : Grammar} {p q r : Phase} → OnPads g p 1 q → OnPads g p 2 r → (n : ℕ) → 0 < n → n ≤ 2 → OnPads g p n (cond (eqb n 1) q r)
+by-pads {g} {p} {q} {r} one two = one-or-two (λ n. OnPads g p n (cond (eqb n 1) q r)) one two
+
+pub lax-pads : (g : Grammar) (n : ℕ) → 0 < n → n ≤ 2 → OnPads g (Lax lax.Data) n (cond (eqb n 1) (Lax lax.OnePad) (Lax lax.TwoPads))
+lax-pads g = by-pads (lax-one-pad g) (lax-two-pads g)
+
+pub standard-pads : (g : Grammar) (n : ℕ) → 0 < n → n ≤ 2 → OnPads g (Standard standard.Data) n (cond (eqb n 1) (Standard standard.PadLine) (Standard standard.Final))
+standard-pads g = by-pads (standard-one-pad g) (standard-two-pads g)
 
 pub strict-pads : (g : Grammar) (room n : ℕ) → 0 < n → n ≤ 2 → room % 4 ≡ n → OnPads g (Strict (strict.Data room)) n (Strict strict.Final)
 strict-pads g room = one-or-two (λ n. room % 4 ≡ n → OnPads g (Strict (strict.Data room)) n (Strict strict.Final)) (strict-one-pad g room) (strict-two-pads g room)

@@ -3,16 +3,16 @@
 // behind the run as if it had read the bytes one by one; the machine's own step decides whatever no run covers.
 ghost use mathlib.Core.Path.{_≡_};
 ghost use mathlib.Core.Logic.{_≢_};
-ghost use mathlib.Core.Bool.{Bool, true, false};
+ghost use mathlib.Core.Bool.{Bool, true, false, cond};
 ghost use Prim.Native.Nat.{_+_, _-_, _*_, _≤_, _<_, _^_};
+ghost use lib.Dec.{eqb};
 ghost use lib.ListN.{length, drop, getD};
 ghost use Rattle.grammar.specs.declared.Grammar.{Grammar};
 ghost use Rattle.grammar.specs.Marks.{LF, hyphen};
 ghost use Rattle.machine.proofs.Machine.{state, wordOf, behind, next, start, dead};
 ghost use Rattle.machine.specs.declared.LabelPhase.{LabelPhase};
 ghost use Rattle.machine.specs.declared.Phase.{Phase};
-ghost use Rattle.machine.specs.declared.Phase.the-variants.{Lax, Strict, Word, Label};
-ghost use Rattle.machine.specs.declared.LaxPhase.the-variants as laxPhase;
+ghost use Rattle.machine.specs.declared.Phase.the-variants.{Strict, Word, Label};
 ghost use Rattle.machine.specs.declared.LabelPhase.the-variants.{Start};
 ghost use Rattle.machine.specs.declared.StrictPhase.the-variants.{Data};
 ghost use Rattle.reading.specs.Scan.{Roomy, noTally, bodyTallied, tallied, stopped, scanOf};
@@ -609,6 +609,7 @@ fn closes(phase: Phase) -> bool
         Phase::Standard(standard) => match standard {
             StandardPhase::BlankLine => true,
             StandardPhase::Line => true,
+            StandardPhase::PadLine => true,
             StandardPhase::Final => true,
             _ => false,
         },
@@ -660,18 +661,17 @@ fn advance_body(text: &[u8], at: usize, state: State, tally: Tally) -> Position
     }
 }
 
-// Under lax both may stand behind any character.
-fn padded_lax(pads: usize) -> Phase
-    requires { ⌜ (0 < pads) × (pads ≤ 2) ⌝ }
-    ensures { λ r. ⌜ ((g : Grammar) → OnPads g (Lax laxPhase.Data) pads r) ⌝ }
+// The phase behind one pad, or behind two.
+fn one_or_two(pads: usize, one: Phase, two: Phase) -> Phase
+    ensures { λ r. ⌜ r ≡ cond (eqb pads 1) one two ⌝ }
 {
     if pads == 1 {
-        return Phase::Lax(LaxPhase::OnePad);
+        return one;
     }
-    Phase::Lax(LaxPhase::TwoPads)
+    two
 }
 
-// Under strict they fill the last group of a line that has room for so many characters more.
+// Under strict pads fill the last group of a line that has room for so many characters more.
 fn padded_strict(room: u8, pads: usize) -> Phase
     requires { ⌜ (0 < pads) × (pads ≤ 2) ⌝ }
     ensures { λ r. ⌜ (dead r ≡ false → (g : Grammar) → OnPads g (Strict (Data room)) pads r) ⌝ }
@@ -689,11 +689,19 @@ fn padded(phase: Phase, pads: usize) -> Phase
 {
     match phase {
         Phase::Lax(lax) => match lax {
-            LaxPhase::Data => padded_lax(pads),
+            LaxPhase::Data => {
+                let one = Phase::Lax(LaxPhase::OnePad);
+                let two = Phase::Lax(LaxPhase::TwoPads);
+                one_or_two(pads, one, two)
+            }
             _ => Phase::Dead,
         },
         Phase::Standard(standard) => match standard {
-            StandardPhase::Data => Phase::Standard(StandardPhase::Final),
+            StandardPhase::Data => {
+                let one = Phase::Standard(StandardPhase::PadLine);
+                let two = Phase::Standard(StandardPhase::Final);
+                one_or_two(pads, one, two)
+            }
             _ => Phase::Dead,
         },
         Phase::Strict(strict) => match strict {

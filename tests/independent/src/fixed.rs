@@ -2,7 +2,7 @@
 
 use crate::paper::{BEGIN, END, HYPHENS, LABEL_LIMIT};
 use crate::random::Random;
-use crate::samples::{m_with, rows, M};
+use crate::samples::{m_with, rows, split_pads, M};
 use crate::texts::{label_of, long_message, stretched, LONG_DATA, LONG_TEXT};
 use crate::trial::{Rooms, Trial};
 
@@ -29,6 +29,7 @@ pub fn run(trial: &mut Trial, random: &mut Random) {
     bytes_everywhere(trial, random);
     mixed_line_ends(trial, random);
     small_bodies(trial, random);
+    small_ends(trial, random);
     small_tails(trial, random);
     small_labels(trial, random);
     label_lengths(trial, random);
@@ -38,7 +39,8 @@ pub fn run(trial: &mut Trial, random: &mut Random) {
 
 /// The paper's rows, bundles of them, and every start of a bundle: with all rooms.
 fn samples(trial: &mut Trial) {
-    let rows: Vec<Vec<u8>> = rows().into_iter().map(|(text, _)| text).collect();
+    let rows = rows().into_iter().chain(split_pads());
+    let rows: Vec<Vec<u8>> = rows.map(|(text, _)| text).collect();
     let pairs = rows
         .iter()
         .flat_map(|first| rows.iter().map(|second| [first.as_slice(), second].concat()));
@@ -100,6 +102,13 @@ fn mixtures(lines: &str) -> Vec<Vec<u8>> {
         let with_line = |text: Vec<u8>| LINE_ENDS.map(|line_end| [text.as_slice(), line_end, line].concat());
         texts.into_iter().flat_map(with_line).collect()
     })
+}
+
+/// All that may stand behind the characters of a body, up to some length.
+fn small_ends(trial: &mut Trial, random: &mut Random) {
+    for end in words(&[b"=", b" ", b"\n", b"\r", b"A"], 6) {
+        trial.text(&m_with(&[b"\nZg", end.as_slice()].concat()), &mut Rooms::Two(random));
+    }
 }
 
 /// All short bodies between two boundaries.

@@ -189,7 +189,8 @@ fn lax_body(r: &mut Regexes) -> Regex {
     r.then(mixture, pads)
 }
 
-/// Blanks, line end; any run of blanks and line ends; zero or more data lines; a final line.
+/// Blanks, line end; any run of blanks and line ends; zero or more data lines; a final line. Change request K9: the final
+/// line's pads stand together, or the second on a line of its own.
 fn standard_body(r: &mut Regexes) -> Regex {
     let (blank, line_end, alphabet) = (blank(r), line_end(r), alphabet(r));
     let blanks = r.many(blank);
@@ -200,7 +201,9 @@ fn standard_body(r: &mut Regexes) -> Regex {
     let data_lines = r.many(data_line);
     let characters = r.many(alphabet);
     let pad = r.word(&[bits::PAD]);
-    let pads = r.at_most(pad, MOST_PADS);
+    let together = r.at_most(pad, MOST_PADS);
+    let split = r.all(&[pad, blanks, line_end, pad]);
+    let pads = r.either(&[together, split]);
     let final_line = r.all(&[characters, pads, blanks, line_end]);
     r.all(&[blanks, line_end, run, data_lines, final_line])
 }

@@ -1,4 +1,4 @@
-//! The paper's "Counter samples": M and the rows of the table.
+//! The paper's "Counter samples": M and the rows of the table, and rows of change request K9.
 
 /// The M of the paper.
 pub const M: &[u8] = b"-----BEGIN A-----\nZg==\n-----END A-----\n";
@@ -24,7 +24,7 @@ pub fn rows() -> Vec<(Vec<u8>, [Sample; 3])> {
         (m_with(b"\r\n"), [none, Err((4, 19)), Err((4, 19))]),
         (m_with(b"\nZg=\n"), [Err((8, 22)), Err((8, 22)), Err((4, 21))]),
         (m_with(b"\nZm 9v\n"), [Ok(b"foo"), Err((4, 21)), Err((4, 20))]),
-        (m_with(b"\nZg=\n=\n"), [f, Err((4, 22)), Err((4, 21))]),
+        (m_with(b"\nZg=\n=\n"), [f, f, Err((4, 21))]),
         (m_with(b"\nZg\n==\n"), [f, f, Err((4, 20))]),
         (
             b"-----BEGIN A-----\nZg==\n-----END B-----\n".to_vec(),
@@ -35,4 +35,30 @@ pub fn rows() -> Vec<(Vec<u8>, [Sample; 3])> {
         (b"-----begin A-----\nZg==\n-----END A-----\n".to_vec(), [Err((3, 5)); 3]),
         (Vec::new(), [Err((3, 0)); 3]),
     ]
+}
+
+/// M with pads on two lines, after change request K9; the last two have one pad, or too many.
+pub fn split_pads() -> Vec<(Vec<u8>, [Sample; 3])> {
+    let f: Sample = Ok(b"\x66");
+    let fo: Sample = Ok(b"\x66\x6f");
+    let no = |place: usize| -> Sample { Err((4, place)) };
+    let accepted: [&[u8]; 3] = [b"\nZg=\r\n=\n", b"\nZg=\r=\n", b"\nZg=\t \r\n=\t\n"];
+    let others: [(&[u8], [Sample; 3]); 13] = [
+        (b"\nZg\n=\n=\n", [f, f, no(20)]),
+        (b"\nZg=\n =\n", [f, no(22), no(21)]),
+        (b"\nZg=\n\n=\n", [f, no(22), no(21)]),
+        (b"\nZg=\n\r=\n", [f, no(22), no(21)]),
+        (b"\nZg=\r\n\n=\n", [f, no(23), no(21)]),
+        (b"\nZg=\x0c\n=\n", [f, no(21), no(21)]),
+        (b"\nZg=\n=", [f, no(23), no(21)]),
+        (b"\nZg=\n==\n", [no(23), no(23), no(21)]),
+        (b"\nZg=\n=\n=\n", [no(24), no(24), no(21)]),
+        (b"\nZg==\n=\n", [no(23); 3]),
+        (b"\nZg=\nZg==\n", [no(22), no(22), no(21)]),
+        (b"\nZm8=\n", [fo; 3]),
+        (b"\nZm8=\n=\n", [Err((8, 25)), Err((8, 25)), no(23)]),
+    ];
+    let accepted = accepted.iter().map(|body| (m_with(body), [f, f, no(21)]));
+    let others = others.iter().map(|&(body, samples)| (m_with(body), samples));
+    accepted.chain(others).collect()
 }

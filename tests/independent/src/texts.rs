@@ -212,15 +212,19 @@ fn standard(content: &Content, r: &mut Random) -> Vec<u8> {
     text
 }
 
-/// The body in lines of any length, with the pads on the last one or on one of their own.
+/// The body in lines of any length, with the pads on the last one, on one of their own, or the second pad so.
 fn standard_lines(content: &Content, r: &mut Random) -> Vec<Vec<u8>> {
     let width = r.pick(&[1, 4, 5, 60, LINE, LINE, LINE, 65, 76, 200]);
     let mut lines: Vec<Vec<u8>> = content.characters.chunks(width).map(<[u8]>::to_vec).collect();
     if lines.is_empty() || r.one_in(6) {
         lines.push(Vec::new());
     }
-    let pads = vec![bits::PAD; content.pads];
+    let split = content.pads == 2 && r.one_in(4);
+    let pads = vec![bits::PAD; content.pads - usize::from(split)];
     lines.last_mut().expect("a final line").extend(pads);
+    if split {
+        lines.push(vec![bits::PAD]);
+    }
     lines
 }
 

@@ -71,6 +71,18 @@ enum-told-11 c = search needs
 ways-requires-11 : tie.Need-ways-requires-11
 ways-requires-11 c κs = search needs
 
+enum-told-12 : tie.Need-enum-told-12
+enum-told-12 c = search needs
+
+ways-requires-12 : tie.Need-ways-requires-12
+ways-requires-12 c κs = search needs
+
+enum-told-13 : tie.Need-enum-told-13
+enum-told-13 c = search needs
+
+ways-requires-13 : tie.Need-ways-requires-13
+ways-requires-13 c κs = search needs
+
 returns : tie.Need-returns
 returns c = c .ways .ensures ∙ sym (ap standardRow (c .before .enum-told .given .1))
 
@@ -104,6 +116,12 @@ returns-10 c = c .ways10 .ensures ∙ sym (ap standardRow (c .before .enum-told1
 returns-11 : tie.Need-returns-11
 returns-11 c = c .ways11 .ensures ∙ sym (ap standardRow (c .before .enum-told11 .given .1))
 
+returns-12 : tie.Need-returns-12
+returns-12 c = c .ways12 .ensures ∙ sym (ap standardRow (c .before .enum-told12 .given .1))
+
+returns-13 : tie.Need-returns-13
+returns-13 c = c .ways13 .ensures ∙ sym (ap standardRow (c .before .enum-told13 .given .1))
+
 pub standard-row-spec : {M : Type 1} → statement M
 standard-row-spec =
     tie.close
@@ -130,6 +148,10 @@ standard-row-spec =
     ways-requires-10
     enum-told-11
     ways-requires-11
+    enum-told-12
+    ways-requires-12
+    enum-told-13
+    ways-requires-13
     returns
     returns-2
     returns-3
@@ -140,4 +162,6 @@ standard-row-spec =
     returns-8
     returns-9
     returns-10
-    returns-11)
+    returns-11
+    returns-12
+    returns-13)

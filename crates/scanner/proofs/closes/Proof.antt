@@ -45,6 +45,9 @@ enum-told-8 c = search needs
 enum-told-9 : tie.Need-enum-told-9
 enum-told-9 c = search needs
 
+enum-told-10 : tie.Need-enum-told-10
+enum-told-10 c = search needs
+
 returns : tie.Need-returns
 returns c =
     let e : c .before .before .before .before .before .args .phase ≡ Lax lax.Data = cc in
@@ -75,27 +78,32 @@ returns-6 c =
 
 returns-7 : tie.Need-returns-7
 returns-7 c =
-    let e : c .before .before .before .before .before .args .phase ≡ Standard standard.Final = cc in
+    let e : c .before .before .before .before .before .args .phase ≡ Standard standard.PadLine = cc in
     λ _. rw e (record { from = refl; leads = λ g. refl })
 
 returns-8 : tie.Need-returns-8
-returns-8 c = λ e. absurd (false≢true e)
+returns-8 c =
+    let e : c .before .before .before .before .before .args .phase ≡ Standard standard.Final = cc in
+    λ _. rw e (record { from = refl; leads = λ g. refl })
 
 returns-9 : tie.Need-returns-9
-returns-9 c =
-    let e : c .before .before .before .before .before .args .phase ≡ Strict strict.Line = cc in
-    λ _. rw e (record { from = refl; leads = λ g. refl })
+returns-9 c = λ e. absurd (false≢true e)
 
 returns-10 : tie.Need-returns-10
 returns-10 c =
-    let e : c .before .before .before .before .before .args .phase ≡ Strict strict.Final = cc in
+    let e : c .before .before .before .before .before .args .phase ≡ Strict strict.Line = cc in
     λ _. rw e (record { from = refl; leads = λ g. refl })
 
 returns-11 : tie.Need-returns-11
-returns-11 c = λ e. absurd (false≢true e)
+returns-11 c =
+    let e : c .before .before .before .before .before .args .phase ≡ Strict strict.Final = cc in
+    λ _. rw e (record { from = refl; leads = λ g. refl })
 
 returns-12 : tie.Need-returns-12
 returns-12 c = λ e. absurd (false≢true e)
+
+returns-13 : tie.Need-returns-13
+returns-13 c = λ e. absurd (false≢true e)
 
 pub closes-spec : {M : Type 1} → statement M
 closes-spec =
@@ -110,9 +118,10 @@ closes-spec =
     enum-told-5
     enum-told-6
     enum-told-7
-    enum-known-phase-3
     enum-told-8
+    enum-known-phase-3
     enum-told-9
+    enum-told-10
     returns
     returns-2
     returns-3
@@ -124,4 +133,5 @@ closes-spec =
     returns-9
     returns-10
     returns-11
-    returns-12)
+    returns-12
+    returns-13)

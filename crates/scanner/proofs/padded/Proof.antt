@@ -6,7 +6,7 @@ use Rattle.machine.specs.declared.StandardPhase.the-variants as standard
 use Rattle.machine.specs.declared.StrictPhase.the-variants as strict
 use Rattle.machine.specs.declared.Phase.the-variants.{Lax, Standard, Strict}
 use borrow.Author.Needs.{needs}
-use Rattle.scanner.proofs.Advances.{standard-pads}
+use Rattle.scanner.proofs.Advances.{lax-pads, standard-pads}
 use Rattle.scanner.proofs.padded.Statement.{statement}
 use Rattle.scanner.proofs.padded.Tie as tie
 
@@ -16,14 +16,17 @@ enum-known-phase c = search needs
 enum-told : tie.Need-enum-told
 enum-told c = search needs
 
-padded-lax-requires : tie.Need-padded-lax-requires
-padded-lax-requires c κs = search needs
+one-or-two-requires : tie.Need-one-or-two-requires
+one-or-two-requires c κs = search needs
 
 enum-known-phase-2 : tie.Need-enum-known-phase-2
 enum-known-phase-2 c = search needs
 
 enum-told-2 : tie.Need-enum-told-2
 enum-told-2 c = search needs
+
+one-or-two-requires-2 : tie.Need-one-or-two-requires-2
+one-or-two-requires-2 c κs = search needs
 
 enum-known-phase-3 : tie.Need-enum-known-phase-3
 enum-known-phase-3 c = search needs
@@ -36,17 +39,18 @@ padded-strict-requires c κs = search needs
 
 returns : tie.Need-returns
 returns c =
-    let e : c .before .before .before .before .before .before .args .phase ≡ Lax lax.Data = cc in
-    λ _ g. rw e (c .padded-lax .ensures g)
+    let start = c .before .before .before .before .before .before in
+    let e : start .args .phase ≡ Lax lax.Data = cc in
+    λ _ g. rw (e, c .one-or-two .ensures) (lax-pads g (start .args .pads) (start .pre .0) (start .pre .1))
 
 returns-2 : tie.Need-returns-2
 returns-2 c = λ e. absurd (true≢false e)
 
 returns-3 : tie.Need-returns-3
 returns-3 c =
-    let start = c .before .before .before .before .before in
+    let start = c .before .before .before .before .before .before in
     let e : start .args .phase ≡ Standard standard.Data = cc in
-    λ _ g. rw e (standard-pads g (start .args .pads) (start .pre .0) (start .pre .1))
+    λ _ g. rw (e, c .one-or-two2 .ensures) (standard-pads g (start .args .pads) (start .pre .0) (start .pre .1))
 
 returns-4 : tie.Need-returns-4
 returns-4 c = λ e. absurd (true≢false e)
@@ -68,9 +72,10 @@ padded-spec =
     (tie.spec
     enum-known-phase
     enum-told
-    padded-lax-requires
+    one-or-two-requires
     enum-known-phase-2
     enum-told-2
+    one-or-two-requires-2
     enum-known-phase-3
     enum-known-strict
     padded-strict-requires
