@@ -10,7 +10,7 @@ use lib.ListN.{length, replicate, length-append}
 use Rattle.base64.specs.Lists.{All}
 use Rattle.base64.specs.Alphabet.{AlphabetChar, pad}
 use Rattle.base64.proofs.Lists.{all-append, all-imp}
-use Rattle.grammar.specs.Marks.{LF, Blank, White, LineEnd, crlf, cr, lf}
+use Rattle.grammar.specs.Marks.{LF, Blank, White, LineEnd, lf}
 use Rattle.grammar.specs.Grammars.{Mixed, LaxPads, LaxBody, FinalLine, StandardLines, BlankLines, StandardBody, StandardAfter, lineChars, Groups, StrictLines, StrictBody}
 use Rattle.grammar.proofs.Marks.{pad-no-alphabet, NoHyphen, white-no-hyphen, white-no-pad, alphabet-no-hyphen, pad-no-hyphen, blanks-white, end-white, end-some, end-head, end-lf, end-unique, end-no-alphabet, blank-no-end, pad-no-end}
 

@@ -31,7 +31,8 @@ use Rattle.reading.specs.declared.Tally.{Tally}
 use Rattle.reading.specs.Scan.{tallied}
 use Rattle.runs.specs.Runs.{Stands, LabelRun}
 use Rattle.scanner.specs.Advances.{Advanced, Countable, boundaryTallied, endedTallied}
-use Rattle.scanner.specs.Phases.{Continues, Closes}
+use Rattle.leaps.specs.Phases.{Closes}
+use Rattle.scanner.specs.Phases.{Continues}
 use Rattle.scanner.proofs.Advances.{advanced-then, advanced-byte, step-moves}
 
 -- A byte leads from one phase of a boundary on.

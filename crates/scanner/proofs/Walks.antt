@@ -17,7 +17,8 @@ use Rattle.runs.specs.Runs.{Characters, LineEndAt, IsLine, LinesTo, no-lines, a
 use Rattle.runs.proofs.Runs.{line-end-inside}
 use Rattle.runs.proofs.Lined.{LinesInside, lines-inside}
 use Rattle.scanner.specs.Advances.{positionAt, Advanced, Countable, LinesFit, runTallied, othersTallied, linesTallied, behindLines}
-use Rattle.scanner.specs.Phases.{OnCharacter, LinePhases, FullLine}
+use Rattle.leaps.specs.Phases.{OnCharacter, LinePhases}
+use Rattle.scanner.specs.Phases.{FullLine}
 use Rattle.scanner.specs.declared.Position.{Position}
 use Rattle.scanner.proofs.Advances.{advanced-none, advanced-then, blanks-to, blanks-line-end, staying-run, others-none, full-line}
 

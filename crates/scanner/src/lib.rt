@@ -3,13 +3,12 @@
 // behind the run as if it had read the bytes one by one; the machine's own step decides whatever no run covers.
 ghost use mathlib.Core.Path.{_≡_};
 ghost use mathlib.Core.Logic.{_≢_};
-ghost use mathlib.Core.Bool.{Bool, true, false, cond};
+ghost use mathlib.Core.Bool.{true, false};
 ghost use Prim.Native.Nat.{_+_, _-_, _*_, _≤_, _<_, _^_};
-ghost use lib.Dec.{eqb};
 ghost use lib.ListN.{length, drop, getD};
 ghost use Rattle.grammar.specs.declared.Grammar.{Grammar};
 ghost use Rattle.grammar.specs.Marks.{LF, hyphen};
-ghost use Rattle.machine.proofs.Machine.{state, wordOf, behind, next, start, dead};
+ghost use Rattle.machine.proofs.Machine.{state, wordOf, behind, next, start};
 ghost use Rattle.machine.specs.declared.LabelPhase.{LabelPhase};
 ghost use Rattle.machine.specs.declared.Phase.{Phase};
 ghost use Rattle.machine.specs.declared.Phase.the-variants.{Strict, Word, Label};
@@ -21,7 +20,8 @@ ghost use Rattle.decoder.specs.Tables.{groupTable};
 ghost use Rattle.runs.specs.Runs.{between};
 ghost use Rattle.decoder.specs.Decoding.{Decoded};
 ghost use Rattle.scanner.specs.Advances.{positionAt, Advanced, Stopped, Countable, LinesFit, runTallied, othersTallied, padsTallied, linesTallied, boundaryTallied, endedTallied, behindLines};
-ghost use Rattle.scanner.specs.Phases.{OnCharacter, LinePhases, LinesFrom, OnPads, Continues, Closes};
+ghost use Rattle.leaps.specs.Phases.{OnCharacter, LinePhases};
+ghost use Rattle.scanner.specs.Phases.{Continues};
 use base64::GROUP_BYTES;
 use base64::GROUP_CHARS;
 use base64::PAD;
@@ -34,6 +34,7 @@ use grammar::LF;
 use grammar::LINE_CHARS;
 use grammar::SP;
 use grammar::TextOffset;
+use leaps::BodyLine;
 use machine::Boundary;
 use machine::Kind;
 use machine::LabelPhase;
@@ -66,14 +67,6 @@ pub struct DecodingScan {
 struct DecodedLines {
     position: Position,
     written: usize,
-}
-
-// Whether a line of the body begins in a phase, and under which grammar.
-enum BodyLine {
-    Lax,
-    Standard,
-    Strict,
-    Elsewhere,
 }
 
 // A run of characters of a body, counted.
@@ -363,30 +356,6 @@ fn advance_strict_lines(text: &[u8], from: usize, first: State, counted: Tally) 
     advance_in_line(text, at, state, tally)
 }
 
-// Whether a line of the body begins in this phase.
-fn body_line(phase: Phase) -> BodyLine
-    ensures { λ r. ⌜ LinesFrom phase r ⌝ }
-{
-    match phase {
-        Phase::Lax(lax) => match lax {
-            LaxPhase::Data => BodyLine::Lax,
-            _ => BodyLine::Elsewhere,
-        },
-        Phase::Standard(standard) => match standard {
-            StandardPhase::Leading => BodyLine::Standard,
-            StandardPhase::BlankLine => BodyLine::Standard,
-            StandardPhase::Line => BodyLine::Standard,
-            _ => BodyLine::Elsewhere,
-        },
-        Phase::Strict(strict) => match strict {
-            StrictPhase::First => BodyLine::Strict,
-            StrictPhase::Line => BodyLine::Strict,
-            _ => BodyLine::Elsewhere,
-        },
-        _ => BodyLine::Elsewhere,
-    }
-}
-
 // The lines that begin in a phase, decoded as they are passed; none where no line of the body begins.
 fn decode_lines(
     table: &[u32; 1024],
@@ -400,7 +369,7 @@ fn decode_lines(
     ensures { λ r. ⌜ (length (now (out .exit)) ≡ length (now (out .entry))) × Decoded (between (now (text .entry)) from (r .position .at)) (now (out .exit)) (r .written) × ((g : Grammar) → Advanced g (now (text .entry)) first counted from (r .position .state) (r .position .tally) (r .position .at)) ⌝ }
 {
     let phase = first.phase;
-    match body_line(phase) {
+    match leaps::body_line(phase) {
         BodyLine::Lax => {
             let data = Phase::Lax(LaxPhase::Data);
             let lines = decoder::put_lines(table, text, from, out);
@@ -465,25 +434,7 @@ fn advance_word(
     }
 }
 
-// The phase behind the LF of a boundary's line.
-fn ended_boundary(grammar: Grammar, boundary: Boundary) -> Phase
-    ensures { λ r. ⌜ r ≡ next grammar (behind grammar boundary) LF ⌝ }
-{
-    match boundary {
-        Boundary::Opening => match grammar {
-            Grammar::Lax => Phase::Lax(LaxPhase::Data),
-            Grammar::Standard => Phase::Standard(StandardPhase::Leading),
-            Grammar::Strict => Phase::Strict(StrictPhase::First),
-        },
-        Boundary::Closing => match grammar {
-            Grammar::Lax => Phase::Lax(LaxPhase::Closed),
-            Grammar::Standard => Phase::Standard(StandardPhase::Ended),
-            Grammar::Strict => Phase::Strict(StrictPhase::Ended),
-        },
-    }
-}
-
-// That LF, counted: it is the body's behind the opening, and behind the closing nothing is counted.
+// The LF of a boundary's line, counted: it is the body's behind the opening, and behind the closing nothing is counted.
 fn tally_ended(boundary: Boundary, tally: Tally) -> Tally
     requires { ⌜ tally .body + 1 < 2 ^ 64 ⌝ }
     ensures { λ r. ⌜ r ≡ endedTallied boundary tally ⌝ }
@@ -509,7 +460,7 @@ fn behind_label(
         if text[at] == LF {
             return at_phase(
                 at + 1,
-                ended_boundary(grammar, boundary),
+                leaps::ended_boundary(grammar, boundary),
                 tally_ended(boundary, tally),
             );
         }
@@ -595,40 +546,13 @@ fn advance_boundary(
     advance_label(text, begin, grammar, labelled, counted, boundary)
 }
 
-// Whether a hyphen in this phase is the first of the closing.
-fn closes(phase: Phase) -> bool
-    ensures { λ r. ⌜ (r ≡ true → Closes phase) ⌝ }
-{
-    match phase {
-        Phase::Lax(lax) => match lax {
-            LaxPhase::Data => true,
-            LaxPhase::OnePad => true,
-            LaxPhase::TwoPads => true,
-            _ => false,
-        },
-        Phase::Standard(standard) => match standard {
-            StandardPhase::BlankLine => true,
-            StandardPhase::Line => true,
-            StandardPhase::PadLine => true,
-            StandardPhase::Final => true,
-            _ => false,
-        },
-        Phase::Strict(strict) => match strict {
-            StrictPhase::Line => true,
-            StrictPhase::Final => true,
-            _ => false,
-        },
-        _ => false,
-    }
-}
-
 // The closing, where it may stand.
 fn advance_closing(text: &[u8], at: usize, grammar: Grammar, state: State, tally: Tally) -> Position
     requires { ⌜ Countable (now text) tally at × (at < length (now text)) × (getD (now text) at 0 ≡ hyphen) ⌝ }
     ensures { λ r. ⌜ Advanced grammar (now (text .entry)) state tally at (r .state) (r .tally) (r .at) ⌝ }
 {
     let phase = state.phase;
-    if !closes(phase) {
+    if !leaps::closes(phase) {
         return stay(text, at, state, tally);
     }
     let word = State {
@@ -645,7 +569,7 @@ fn advance_body(text: &[u8], at: usize, state: State, tally: Tally) -> Position
     ensures { λ r. ⌜ ((g : Grammar) → Advanced g (now (text .entry)) state tally at (r .state) (r .tally) (r .at)) ⌝ }
 {
     let phase = state.phase;
-    match body_line(phase) {
+    match leaps::body_line(phase) {
         BodyLine::Lax => {
             let data = Phase::Lax(LaxPhase::Data);
             advance_any_lines(text, at, state, tally, data, data, data, true)
@@ -658,57 +582,6 @@ fn advance_body(text: &[u8], at: usize, state: State, tally: Tally) -> Position
         }
         BodyLine::Strict => advance_strict_lines(text, at, state, tally),
         BodyLine::Elsewhere => stay(text, at, state, tally),
-    }
-}
-
-// The phase behind one pad, or behind two.
-fn one_or_two(pads: usize, one: Phase, two: Phase) -> Phase
-    ensures { λ r. ⌜ r ≡ cond (eqb pads 1) one two ⌝ }
-{
-    if pads == 1 {
-        return one;
-    }
-    two
-}
-
-// Under strict pads fill the last group of a line that has room for so many characters more.
-fn padded_strict(room: u8, pads: usize) -> Phase
-    requires { ⌜ (0 < pads) × (pads ≤ 2) ⌝ }
-    ensures { λ r. ⌜ (dead r ≡ false → (g : Grammar) → OnPads g (Strict (Data room)) pads r) ⌝ }
-{
-    if (room % 4) as usize != pads {
-        return Phase::Dead;
-    }
-    Phase::Strict(StrictPhase::Final)
-}
-
-// The phase behind one or two pads and a line end; dead where they may not stand.
-fn padded(phase: Phase, pads: usize) -> Phase
-    requires { ⌜ (0 < pads) × (pads ≤ 2) ⌝ }
-    ensures { λ r. ⌜ (dead r ≡ false → (g : Grammar) → OnPads g phase pads r) ⌝ }
-{
-    match phase {
-        Phase::Lax(lax) => match lax {
-            LaxPhase::Data => {
-                let one = Phase::Lax(LaxPhase::OnePad);
-                let two = Phase::Lax(LaxPhase::TwoPads);
-                one_or_two(pads, one, two)
-            }
-            _ => Phase::Dead,
-        },
-        Phase::Standard(standard) => match standard {
-            StandardPhase::Data => {
-                let one = Phase::Standard(StandardPhase::PadLine);
-                let two = Phase::Standard(StandardPhase::Final);
-                one_or_two(pads, one, two)
-            }
-            _ => Phase::Dead,
-        },
-        Phase::Strict(strict) => match strict {
-            StrictPhase::Data(room) => padded_strict(room, pads),
-            _ => Phase::Dead,
-        },
-        _ => Phase::Dead,
     }
 }
 
@@ -726,7 +599,7 @@ fn advance_pads(text: &[u8], at: usize, state: State, tally: Tally) -> Position
         return stay(text, at, state, tally);
     }
     let phase = state.phase;
-    let next = padded(phase, pads);
+    let next = leaps::padded(phase, pads);
     if engine::is_dead(next) {
         return stay(text, at, state, tally);
     }
@@ -835,7 +708,7 @@ fn stops(asked: bool, phase: Phase, b: u8) -> bool
     if b <= SP {
         return false;
     }
-    match body_line(phase) {
+    match leaps::body_line(phase) {
         BodyLine::Elsewhere => false,
         _ => true,
     }

@@ -5,7 +5,7 @@ use mathlib.Core.Bool.{Bool}
 use Rattle.grammar.specs.declared.Grammar.{Grammar}
 use Rattle.machine.specs.declared.Phase.{Phase}
 use Rattle.runs.proofs.Lined.{lines-inside}
-use Rattle.scanner.specs.Phases.{LinePhases}
+use Rattle.leaps.specs.Phases.{LinePhases}
 use Rattle.scanner.proofs.Advances.{advanced-then}
 use Rattle.scanner.proofs.Walks.{phases-behind, any-line-from, lines-passed, lines-fit, behind-countable, behind-phase}
 use borrow.Author.Needs.{needs}

@@ -6,8 +6,9 @@ use Rattle.machine.specs.declared.Phase.{Phase}
 use Rattle.machine.specs.declared.Phase.the-variants.{Strict}
 use Rattle.machine.specs.declared.StrictPhase.the-variants.{Line, Data}
 use Rattle.runs.proofs.Lined.{lines-inside}
-use Rattle.scanner.specs.Phases.{OnCharacter}
-use Rattle.scanner.proofs.Advances.{advanced-then, strict-line, strict-lines}
+use Rattle.leaps.specs.Phases.{OnCharacter}
+use Rattle.leaps.proofs.Phases.{strict-line}
+use Rattle.scanner.proofs.Advances.{advanced-then, strict-lines}
 use Rattle.scanner.proofs.Walks.{full-line-from, lines-passed, lines-fit, behind-countable, behind-phase}
 use borrow.Author.Needs.{needs}
 use Rattle.scanner.proofs.advance_strict_lines.Statement.{statement}

@@ -1,14 +1,14 @@
--- `scanner::body_line` meets its contract. Assumes nothing.
+-- `leaps::body_line` meets its contract. Assumes nothing.
 use Prim.Native.Nat.{_-_}
 use mathlib.Core.Path.{_≡_}
 use Rattle.machine.specs.declared.LaxPhase.the-variants as lax
 use Rattle.machine.specs.declared.StandardPhase.the-variants as standard
 use Rattle.machine.specs.declared.StrictPhase.the-variants as strict
 use Rattle.machine.specs.declared.Phase.the-variants.{Lax, Standard, Strict}
-use Rattle.scanner.proofs.Advances.{lax-lined, standard-lined, standard-leading, standard-blank, standard-line, strict-first, strict-line}
+use Rattle.leaps.proofs.Phases.{lax-lined, standard-lined, standard-leading, standard-blank, standard-line, strict-first, strict-line}
 use borrow.Author.Needs.{needs}
-use Rattle.scanner.proofs.body_line.Statement.{statement}
-use Rattle.scanner.proofs.body_line.Tie as tie
+use Rattle.leaps.proofs.body_line.Statement.{statement}
+use Rattle.leaps.proofs.body_line.Tie as tie
 
 enum-known-phase : tie.Need-enum-known-phase
 enum-known-phase c = search needs

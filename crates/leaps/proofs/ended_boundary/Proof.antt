@@ -1,7 +1,7 @@
--- `scanner::ended_boundary` meets its contract. Assumes nothing.
+-- `leaps::ended_boundary` meets its contract. Assumes nothing.
 use borrow.Author.Needs.{needs}
-use Rattle.scanner.proofs.ended_boundary.Statement.{statement}
-use Rattle.scanner.proofs.ended_boundary.Tie as tie
+use Rattle.leaps.proofs.ended_boundary.Statement.{statement}
+use Rattle.leaps.proofs.ended_boundary.Tie as tie
 
 enum-told : tie.Need-enum-told
 enum-told c = search needs

@@ -1,10 +1,10 @@
--- `scanner::padded_strict` meets its contract. Assumes nothing.
+-- `leaps::padded_strict` meets its contract. Assumes nothing.
 use mathlib.Core.Bool.{true≢false}
 use native.Mathlib.Omega.{arith}
 use borrow.Author.Needs.{needs}
-use Rattle.scanner.proofs.Advances.{strict-pads}
-use Rattle.scanner.proofs.padded_strict.Statement.{statement}
-use Rattle.scanner.proofs.padded_strict.Tie as tie
+use Rattle.leaps.proofs.Phases.{strict-pads}
+use Rattle.leaps.proofs.padded_strict.Statement.{statement}
+use Rattle.leaps.proofs.padded_strict.Tie as tie
 
 cast-if1 : tie.Need-cast-if1
 cast-if1 c = search needs

@@ -1,4 +1,4 @@
--- `scanner::padded` meets its contract. Assumes nothing.
+-- `leaps::padded` meets its contract. Assumes nothing.
 use mathlib.Core.Path.{_≡_}
 use mathlib.Core.Bool.{true≢false}
 use Rattle.machine.specs.declared.LaxPhase.the-variants as lax
@@ -6,9 +6,9 @@ use Rattle.machine.specs.declared.StandardPhase.the-variants as standard
 use Rattle.machine.specs.declared.StrictPhase.the-variants as strict
 use Rattle.machine.specs.declared.Phase.the-variants.{Lax, Standard, Strict}
 use borrow.Author.Needs.{needs}
-use Rattle.scanner.proofs.Advances.{lax-pads, standard-pads}
-use Rattle.scanner.proofs.padded.Statement.{statement}
-use Rattle.scanner.proofs.padded.Tie as tie
+use Rattle.leaps.proofs.Phases.{lax-pads, standard-pads}
+use Rattle.leaps.proofs.padded.Statement.{statement}
+use Rattle.leaps.proofs.padded.Tie as tie
 
 enum-known-phase : tie.Need-enum-known-phase
 enum-known-phase c = search needs

@@ -1,7 +1,7 @@
--- `scanner::one_or_two` meets its contract. Assumes nothing.
+-- `leaps::one_or_two` meets its contract. Assumes nothing.
 use borrow.Author.Tests.{ne-eqb}
-use Rattle.scanner.proofs.one_or_two.Statement.{statement}
-use Rattle.scanner.proofs.one_or_two.Tie as tie
+use Rattle.leaps.proofs.one_or_two.Statement.{statement}
+use Rattle.leaps.proofs.one_or_two.Tie as tie
 
 returns : tie.Need-returns
 returns c = rw (c .if1 .taken)

@@ -1,4 +1,4 @@
--- `scanner::closes` meets its contract. Assumes nothing.
+-- `leaps::closes` meets its contract. Assumes nothing.
 use mathlib.Core.Path.{_≡_, refl}
 use mathlib.Core.Bool.{false≢true}
 use Rattle.machine.specs.declared.LaxPhase.the-variants as lax
@@ -6,8 +6,8 @@ use Rattle.machine.specs.declared.StandardPhase.the-variants as standard
 use Rattle.machine.specs.declared.StrictPhase.the-variants as strict
 use Rattle.machine.specs.declared.Phase.the-variants.{Lax, Standard, Strict}
 use borrow.Author.Needs.{needs}
-use Rattle.scanner.proofs.closes.Statement.{statement}
-use Rattle.scanner.proofs.closes.Tie as tie
+use Rattle.leaps.proofs.closes.Statement.{statement}
+use Rattle.leaps.proofs.closes.Tie as tie
 
 enum-known-phase : tie.Need-enum-known-phase
 enum-known-phase c = search needs
