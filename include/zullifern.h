@@ -24,7 +24,7 @@ extern "C" {
 /* Grammars. Each strict text is a standard text, and each standard text a lax one, with the same labels and data. */
 enum zullifern_grammar {
     ZULLIFERN_LAX = 1,      /* white around the message and anywhere between the characters of its data */
-    ZULLIFERN_STANDARD = 2, /* data lines of any length, with blanks behind them */
+    ZULLIFERN_STANDARD = 2, /* data lines of any length, blanks behind them; the second pad may stand on the next line */
     ZULLIFERN_STRICT = 3    /* lines of 64 characters but for the last, no blanks, spare bits zero: what is written */
 };
 

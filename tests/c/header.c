@@ -62,6 +62,8 @@ static void numbers_of_read(void)
     reads(M, 4, 1, ZULLIFERN_UNKNOWN_GRAMMAR, 0);
     reads("-----begin", ZULLIFERN_LAX, 1, ZULLIFERN_OPENING, 5);
     reads("-----BEGIN A-----\nZm 9v\n", ZULLIFERN_STANDARD, 9, ZULLIFERN_BODY, 21);
+    reads("-----BEGIN A-----\nZg=\n=\n-----END A-----\n", ZULLIFERN_STANDARD, 1, ZULLIFERN_ACCEPTED, 0);
+    reads("-----BEGIN A-----\nZg=\n=\n-----END A-----\n", ZULLIFERN_STRICT, 1, ZULLIFERN_BODY, 21);
     reads(M "x", ZULLIFERN_LAX, 1, ZULLIFERN_CLOSING, 39);
     reads("-----BEGIN " LABEL_65 "----------END -----", ZULLIFERN_LAX, 1, ZULLIFERN_LABEL_TOO_LONG, 11);
     reads("-----BEGIN A-----\nZg==\n-----END B-----\n", ZULLIFERN_STRICT, 1, ZULLIFERN_LABELS_DIFFER, 32);

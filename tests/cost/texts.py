@@ -36,7 +36,7 @@ LABELLED = b"-----BEGIN " + LABEL + b"-----\n"
 HALVES = b"A-BEGIN A-END "
 # Messages in which hardly two neighbours are of one kind.
 MOTLEY_LAX = b"-----BEGIN A-A A-----\rZ \tm\v9 v\fZ\n g\r\n=\t= \n-----END A-A A-----\v"
-MOTLEY_STANDARD = b"-----BEGIN A-A A-----\t\r \n\rZm \r9\t\nvZ\r\ng \r==\t\r-----END A-A A----- \r"
+MOTLEY_STANDARD = b"-----BEGIN A-A A-----\t\r \n\rZm \r9\t\nvZ\r\ng \r=\t\r=\t\r-----END A-A A----- \r"
 
 
 class Family(typing.NamedTuple):
@@ -157,6 +157,8 @@ READ_STANDARD = [
     Family("nothing but empty lines", (BEGIN, [LF], END)),
     Family("blanks before the characters", (BEGIN, [BLANKS], PADDED, END)),
     Family("blanks behind the pads", (BEGIN, b"Zg==", [BLANKS], LF, END)),
+    Family("blanks behind each of two pads", (BEGIN, b"Zg=", [BLANKS], LF, b"=", [BLANKS], LF, END)),
+    Family("blanks before the second pad", (BEGIN, [LINE], b"Zg=\n", DUE, b" =\n", END), 4),
     Family("blanks behind the closing", (BEGIN, PADDED, CLOSING, [BLANKS], LF)),
     Family("blanks and no line end", (OPENING, [BLANKS], DUE), 4),
     Family("unfinished", (BEGIN, [LINE], DUE), 4),

@@ -37,6 +37,8 @@ TEXTS = [
     MESSAGE + b"x",
     MESSAGE.replace(b"Zg==", b"Zh=="),
     MESSAGE.replace(b"Zg==", b"Zg="),
+    MESSAGE.replace(b"Zg==", b"Zg=\n="),
+    MESSAGE.replace(b"Zg==", b"Zg=\n ="),
     MESSAGE.replace(b"END A", b"END B"),
     MESSAGE.replace(b"A", b"A" * 65),
     MESSAGE.replace(b"A", b"X509 CRL"),

@@ -195,6 +195,30 @@ fn an_empty_label_and_an_empty_output_are_answers_too() {
 }
 
 #[test]
+fn the_second_pad_may_stand_on_the_next_line() {
+    for line_end in ["\n", "\r\n", "\r", " \t\n"] {
+        let text = M.replace("Zg==", &format!("Zg={line_end}="));
+        for grammar in [Grammar::Lax, Grammar::Standard] {
+            assert_eq!(
+                zullifern::read(text.as_bytes(), grammar, &mut [0; 1]).unwrap().data,
+                b"f"
+            );
+        }
+        let refusal = Refusal::Body {
+            place: place(21, 2, 4, false),
+        };
+        assert_eq!(read_refusal(&text, Grammar::Strict), refusal);
+    }
+    let blank_before = Refusal::Body {
+        place: place(22, 3, 1, false),
+    };
+    assert_eq!(
+        read_refusal(&M.replace("Zg==", "Zg=\n ="), Grammar::Standard),
+        blank_before
+    );
+}
+
+#[test]
 fn grammars_have_numbers_and_names() {
     for grammar in Grammar::ALL {
         assert_eq!(Grammar::try_from(grammar.number()), Ok(grammar));
