@@ -1,7 +1,7 @@
--- `engine::line_end` meets its contract: the code's tests are those of `lineEnd`. Assumes nothing.
+-- `transitions::line_end` meets its contract: the code's tests are those of `lineEnd`. Assumes nothing.
 use borrow.Author.Tests.{eq-eqb, ne-eqb}
-use Rattle.engine.proofs.line_end.Statement.{statement}
-use Rattle.engine.proofs.line_end.Tie as tie
+use Rattle.transitions.proofs.line_end.Statement.{statement}
+use Rattle.transitions.proofs.line_end.Tie as tie
 
 returns : tie.Need-returns
 returns c = simp (eq-eqb _ _ (c .if1 .taken))

@@ -1,9 +1,9 @@
--- `engine::label_row` meets its contract, arm by arm. Assumes nothing.
+-- `transitions::label_row` meets its contract, arm by arm. Assumes nothing.
 use mathlib.Core.Path.{sym, ap}
 use Rattle.machine.proofs.Machine.{labelRow}
 use borrow.Author.Needs.{needs}
-use Rattle.engine.proofs.label_row.Statement.{statement}
-use Rattle.engine.proofs.label_row.Tie as tie
+use Rattle.transitions.proofs.label_row.Statement.{statement}
+use Rattle.transitions.proofs.label_row.Tie as tie
 
 enum-told : tie.Need-enum-told
 enum-told c = search needs

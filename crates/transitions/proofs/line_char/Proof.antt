@@ -1,8 +1,8 @@
--- `engine::line_char` meets its contract: the code's test is that of `lineChar`. Assumes nothing.
+-- `transitions::line_char` meets its contract: the code's test is that of `lineChar`. Assumes nothing.
 use borrow.Author.Tests.{eq-eqb, ne-eqb}
 use borrow.Author.Needs.{needs}
-use Rattle.engine.proofs.line_char.Statement.{statement}
-use Rattle.engine.proofs.line_char.Tie as tie
+use Rattle.transitions.proofs.line_char.Statement.{statement}
+use Rattle.transitions.proofs.line_char.Tie as tie
 
 returns : tie.Need-returns
 returns c = simp (eq-eqb _ _ (c .if1 .taken))

@@ -2,8 +2,8 @@
 use mathlib.Core.Path.{sym, ap, _∙_}
 use borrow.Author.Needs.{needs}
 use Rattle.machine.proofs.Machine.{laxRow}
-use Rattle.engine.proofs.lax_row.Statement.{statement}
-use Rattle.engine.proofs.lax_row.Tie as tie
+use Rattle.transitions.proofs.lax_row.Statement.{statement}
+use Rattle.transitions.proofs.lax_row.Tie as tie
 
 enum-told : tie.Need-enum-told
 enum-told c = search needs

@@ -1,7 +1,7 @@
--- `engine::line_pad` meets its contract: the code's tests are those of `linePad`. Assumes nothing.
+-- `transitions::line_pad` meets its contract: the code's tests are those of `linePad`. Assumes nothing.
 use borrow.Author.Tests.{eq-eqb, ne-eqb}
-use Rattle.engine.proofs.line_pad.Statement.{statement}
-use Rattle.engine.proofs.line_pad.Tie as tie
+use Rattle.transitions.proofs.line_pad.Statement.{statement}
+use Rattle.transitions.proofs.line_pad.Tie as tie
 
 returns : tie.Need-returns
 returns c = simp (eq-eqb _ _ (c .if1 .taken))

@@ -1,0 +1,1 @@
+-- The functions meet their contracts. Assumes nothing.
