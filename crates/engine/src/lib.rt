@@ -1,4 +1,4 @@
-// The machine's code: each function equals its definition in the crate `machine`.
+// The machine's code, but for its tables: each function equals its definition in the crate `machine`.
 ghost use mathlib.Core.Path.{_≡_};
 ghost use lib.ListN.{length, getD};
 ghost use Rattle.machine.proofs.ByteKinds.{kindOf, otherKind};

@@ -1,6 +1,6 @@
 // The machine that reads RFC 7468 text of one of the three grammars, a byte at a time: its kinds of byte and its phases. Where
 // each byte takes it stands in proofs/, as definitions, and so does the proof that it accepts exactly the texts of the grammars'
-// relations. The crate `engine` has its code.
+// relations. The crates `transitions` and `engine` have its code.
 // The kinds of byte that the grammars tell apart.
 pub enum Kind {
     Tab,
