@@ -6,3 +6,4 @@ pub mod Message
 pub mod Counts
 pub mod Bundle
 pub mod Samples
+pub mod Claims

@@ -5,21 +5,31 @@ use mathlib.Core.List.{List, [], _++_, append-assoc, append-cancel-left}
 use Prim.Native.Nat.{ℕ}
 use lib.ListN.{drop}
 use Rattle.base64.specs.Lists.{All}
+use Rattle.base64.specs.Groups.{valuesOf, spareBits}
 use Rattle.grammar.specs.Marks.{hyphen, White, begin, end, hyphens}
 use Rattle.grammar.specs.Grammars.{StandardAfter}
-use Rattle.grammar.specs.Message.{Reading, textOf, Shape, Consistent, dataOf, Message}
+use Rattle.grammar.specs.Message.{Reading, textOf, Shape, characters, SpareBits, Consistent, dataOf, Message}
 use Rattle.grammar.specs.declared.Grammar.{Grammar}
 use Rattle.grammar.specs.declared.Grammar.the-variants.{Lax, Standard, Strict}
 use Rattle.grammar.proofs.Runs.{Stop, run-unique}
 use Rattle.grammar.proofs.Marks.{NoHyphen, white-no-hyphen, label-unique}
 use Rattle.grammar.proofs.Grammars.{lax-body-no-hyphen, standard-body-lax, standard-after-white, strict-body-standard}
 
--- ---- widening: with the same parts
-
 -- The second grammar is the next wider one.
 pub data Wider : Grammar → Grammar → Type 0 where
   strict-standard : Wider Strict Standard
   standard-lax : Wider Standard Lax
+
+-- ---- spare bits: each grammar that has a wider one asks for zero, and the widest for nothing
+
+pub spare-zero : {g h : Grammar} → Wider g h → (cs : List ℕ) → SpareBits g cs → spareBits (valuesOf cs) ≡ 0
+spare-zero strict-standard cs zero = zero
+spare-zero standard-lax cs zero = zero
+
+pub spare-dropped : (cs : List ℕ) → SpareBits Lax cs
+spare-dropped cs = tt
+
+-- ---- widening: with the same parts
 
 pub shape-widens : {g h : Grammar} → Wider g h → (r : Reading) → Shape g r → Shape h r
 shape-widens strict-standard r s = record {
@@ -38,8 +48,8 @@ shape-widens standard-lax r s = record {
 }
 
 pub consistent-widens : {g h : Grammar} → Wider g h → (r : Reading) → Consistent g r → Consistent h r
-consistent-widens strict-standard r c = record { labels = c .labels; counts = c .counts; spare = tt }
-consistent-widens standard-lax r c = record { labels = c .labels; counts = c .counts; spare = tt }
+consistent-widens strict-standard r c = record { labels = c .labels; counts = c .counts; spare = c .spare }
+consistent-widens standard-lax r c = record { labels = c .labels; counts = c .counts; spare = spare-dropped (characters (r .body)) }
 
 -- A message of the narrower grammar is one of the wider, with the same label and data.
 pub message-widens : {g h : Grammar} → Wider g h → {t label content : List ℕ} → Message g t label content → Message h t label content

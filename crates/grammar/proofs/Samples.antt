@@ -20,7 +20,7 @@ use Rattle.grammar.proofs.Runs.{run-unique}
 use Rattle.grammar.proofs.Marks.{empty-label, end-some, label-unique}
 use Rattle.grammar.proofs.Grammars.{empty-final-line, split-final-line, behind-pad-line, strict-body-long, strict-body-standard, standard-body-lax, strict-body-short}
 use Rattle.grammar.proofs.Counts.{lax-body-pads}
-use Rattle.grammar.proofs.Message.{strict-standard, shape-widens, shape-lax, consistent-widens, no-white-hyphen, text-then, reading-unique}
+use Rattle.grammar.proofs.Message.{Wider, strict-standard, standard-lax, spare-zero, spare-dropped, shape-widens, shape-lax, consistent-widens, no-white-hyphen, text-then, reading-unique}
 use Rattle.grammar.proofs.Bundle.{strict-bundle, readings-unique}
 
 -- A text with a reading is refused by each grammar that the reading does not meet.
@@ -35,7 +35,7 @@ abbrev reading : List ℕ → List ℕ → List ℕ → Reading
 reading body closingLabel after = record { before = []; openingLabel = 65 ∷ []; body = body; closingLabel = closingLabel; after = after }
 
 -- Most of them close with "A" and LF.
-abbrev closed : List ℕ → Reading
+abbrev pub closed : List ℕ → Reading
 closed body = reading body (65 ∷ []) (10 ∷ [])
 
 capital : (c : ℕ) → (46 ≤ c) × (c ≤ 126) → Label (c ∷ [])
@@ -89,18 +89,30 @@ unfolding valueOf placeIn alphabet characters padCount
 M-consistent after = record { labels = refl; counts = inr (inl (refl, refl)); spare = refl }
 
 -- `Zh==`: the spare bits are 1.
-abbrev Zh-body : List ℕ
+abbrev pub Zh-body : List ℕ
 Zh-body = 10 ∷ 90 ∷ 104 ∷ 61 ∷ 61 ∷ 10 ∷ []
 
 Zh-strict-body : StrictBody Zh-body
 unfolding valueOf placeIn alphabet
 Zh-strict-body = StrictBody.strict (10 ∷ []) (90 ∷ 104 ∷ 61 ∷ 61 ∷ 10 ∷ []) lf (two-pads 104 (lit< tt))
 
-Zh-strict : (label content : List ℕ) → ¬ Message Strict (around Zh-body) label content
+-- Each grammar that asks for zero refuses it.
+Zh-refused : {g h : Grammar} → Wider g h → (label content : List ℕ) → ¬ Message g (around Zh-body) label content
 unfolding valueOf placeIn alphabet characters
-Zh-strict =
-    unmet Strict Strict (closed Zh-body) (closed-shape Strict Zh-body Zh-strict-body)
-    (λ s c. let e : _≡_ {A = ℕ} 1 0 = c .spare in omega arith)
+Zh-refused {g} w =
+    unmet g Strict (closed Zh-body) (closed-shape Strict Zh-body Zh-strict-body)
+    (λ s c. let e : _≡_ {A = ℕ} 1 0 = spare-zero w (characters Zh-body) (c .spare) in omega arith)
+
+pub Zh-shape : Shape Lax (closed Zh-body)
+Zh-shape = closed-shape Lax Zh-body (standard-body-lax (strict-body-standard Zh-strict-body))
+
+pub Zh-consistent : Consistent Lax (closed Zh-body)
+unfolding valueOf placeIn alphabet characters padCount
+Zh-consistent = record { labels = refl; counts = inr (inl (refl, refl)); spare = spare-dropped (characters Zh-body) }
+
+Zh-lax : Message Lax (around Zh-body) (65 ∷ []) (102 ∷ [])
+unfolding valueOf placeIn alphabet characters
+Zh-lax = message Lax (closed Zh-body) Zh-shape Zh-consistent
 
 -- Labels that differ.
 B-lax : (label content : List ℕ) → ¬ Message Lax (beginA ++ (M-body ++ (endB ++ (10 ∷ [])))) label content
@@ -157,7 +169,7 @@ empty-line : Message Standard (around (10 ∷ 10 ∷ [])) (65 ∷ []) []
 unfolding valueOf placeIn alphabet characters padCount
 empty-line =
     message Standard (closed (10 ∷ 10 ∷ [])) (closed-shape Standard (10 ∷ 10 ∷ []) empty-body)
-    record { labels = refl; counts = inl (refl, refl); spare = tt }
+    record { labels = refl; counts = inl (refl, refl); spare = refl }
 
 empty-line-strict : (label content : List ℕ) → ¬ Message Strict (around (10 ∷ 10 ∷ [])) label content
 empty-line-strict =
@@ -182,7 +194,7 @@ split-pads : Message Standard (around (10 ∷ 90 ∷ 103 ∷ 61 ∷ 10 ∷ 61 �
 unfolding valueOf placeIn alphabet characters padCount
 split-pads =
     let body : List ℕ = 10 ∷ 90 ∷ 103 ∷ 61 ∷ 10 ∷ 61 ∷ 10 ∷ [] in
-    message Standard (closed body) (closed-shape Standard body split-body) record { labels = refl; counts = inr (inl (refl, refl)); spare = tt }
+    message Standard (closed body) (closed-shape Standard body split-body) record { labels = refl; counts = inr (inl (refl, refl)); spare = refl }
 
 -- ---- full lines
 
@@ -293,7 +305,9 @@ none g = record { readings = []; joined = refl; shapes = tt; consistent = tt; ha
 
 pub samples : Samples
 samples = record {
-  spareBits = Zh-strict;
+  spareBits = Zh-refused standard-lax;
+  spareBitsStrict = Zh-refused strict-standard;
+  spareBitsLax = Zh-lax;
   labelsDiffer = B-lax;
   hyphenLabel = hyphen-label;
   emptyLabel = unlabelled;

@@ -4,4 +4,5 @@ pub mod Grammars
 pub mod Message
 pub mod Bundle
 pub mod Starts
+pub mod Claims
 pub mod Samples

@@ -42,10 +42,11 @@ unfoldable pub padCount : List ℕ → ℕ
 padCount [] = 0
 padCount (c ∷ l) = cond (eqb c pad) (suc (padCount l)) (padCount l)
 
--- The spare bits must be zero under strict; lax and standard drop them.
+-- The spare bits must be zero under standard and strict; lax drops them. (The requirements, before their change request K8:
+-- they "must be zero under grammar 3; grammars 1 and 2 drop them".)
 abbrev pub SpareBits : Grammar → List ℕ → Type 0
 SpareBits Lax cs = Unit {0}
-SpareBits Standard cs = Unit {0}
+SpareBits Standard cs = spareBits (valuesOf cs) ≡ 0
 SpareBits Strict cs = spareBits (valuesOf cs) ≡ 0
 
 -- After the grammar: the same label in both boundaries, n characters and p pads that fit, spare bits as the grammar asks.

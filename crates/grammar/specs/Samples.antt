@@ -56,8 +56,10 @@ BundleRefused g text = (list : List Item) (table : List ℕ) → ¬ Bundle g tex
 
 -- The claim.
 pub record Samples : Type 0 where
-  -- M with `Zh==`: its spare bits are not zero, which strict asks
-  pub spareBits : (label content : List ℕ) → ¬ Message Strict (around (10 ∷ 90 ∷ 104 ∷ 61 ∷ 61 ∷ 10 ∷ [])) label content
+  -- M with `Zh==`: its spare bits are not zero, as standard and strict ask; lax drops them, and its data is that of M
+  pub spareBits : (label content : List ℕ) → ¬ Message Standard (around (10 ∷ 90 ∷ 104 ∷ 61 ∷ 61 ∷ 10 ∷ [])) label content
+  pub spareBitsStrict : (label content : List ℕ) → ¬ Message Strict (around (10 ∷ 90 ∷ 104 ∷ 61 ∷ 61 ∷ 10 ∷ [])) label content
+  pub spareBitsLax : Message Lax (around (10 ∷ 90 ∷ 104 ∷ 61 ∷ 61 ∷ 10 ∷ [])) (65 ∷ []) (102 ∷ [])
   -- M closing with B: the labels differ
   pub labelsDiffer : (label content : List ℕ) → ¬ Message Lax (beginA ++ (10 ∷ 90 ∷ 103 ∷ 61 ∷ 61 ∷ 10 ∷ (endB ++ (10 ∷ [])))) label content
   -- a label with a hyphen inside

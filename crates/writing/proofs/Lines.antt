@@ -14,6 +14,7 @@ use Rattle.base64.proofs.Lists.{all-append, all-front, all-back}
 use Rattle.grammar.specs.Marks.{CR, LF, LineEnd, crlf, cr, lf}
 use Rattle.grammar.specs.Grammars.{lineChars, Groups, StrictLines}
 use Rattle.grammar.specs.Message.{characters, padCount}
+use Rattle.grammar.specs.Claims.{charsThenPads}
 use Rattle.grammar.proofs.Grammars.{groups-length}
 use Rattle.grammar.proofs.Counts.{characters-append, pads-append, characters-alphabet, pads-alphabet, characters-pads, pads-pads, end-counts}
 use Rattle.writing.specs.Text.{lineEnd, inLines}
@@ -106,10 +107,6 @@ lines-strict (c ∷ b) p (suc room) n a ha hb l e f k =
     (rw length-append (omega arith)) (rw length-append (omega arith)) (rw length-append (omega arith)))
 
 -- ---- and there are no others
-
--- The characters of a body, and then its pads.
-abbrev pub charsThenPads : List ℕ → List ℕ
-charsThenPads l = characters l ++ replicate (padCount l) pad
 
 -- Characters in front stay in front, and line ends in front or behind are left out.
 chars-front : (a x : List ℕ) → All AlphabetChar a → charsThenPads (a ++ x) ≡ a ++ charsThenPads x

@@ -12,16 +12,19 @@ use Rattle.base64.specs.Lists.{All}
 use Rattle.base64.specs.Alphabet.{Octet, AlphabetChar, pad}
 use Rattle.base64.specs.Groups.{toValues, padsFor, charsOf, encode, decode}
 use Rattle.base64.proofs.Lists.{all-append, all-front, all-back, all-imp}
-use Rattle.base64.proofs.Groups.{chars-alphabet, values-spare, values-counts, counts-pads, values-chars, decode-chars, encode-decode, length-encode}
+use Rattle.base64.proofs.Groups.{chars-alphabet, values-spare, values-counts, counts-pads, values-chars, decode-chars, length-encode}
 use Rattle.grammar.specs.Marks.{CR, LF, lf, begin, end, hyphens, opening, closing, LabelChar, Separator, LabelChars, last, next, separated, Label, empty, chars}
 use Rattle.grammar.specs.Grammars.{lineChars, StrictLines, StrictBody}
 use Rattle.grammar.specs.Message.{Reading, textOf, Shape, characters, padCount, Consistent, dataOf, Message}
+use Rattle.grammar.specs.Claims.{charsThenPads}
 use Rattle.grammar.specs.declared.Grammar.the-variants.{Strict}
 use Rattle.grammar.proofs.Marks.{end-no-alphabet}
-use Rattle.grammar.proofs.Counts.{characters-append, pads-append, characters-all, characters-alphabet, pads-alphabet, characters-pads, pads-pads, end-counts}
+use Rattle.grammar.proofs.Message.{strict-standard}
+use Rattle.grammar.proofs.Claims.{encoded-again}
+use Rattle.grammar.proofs.Counts.{characters-append, pads-append, characters-alphabet, pads-alphabet, characters-pads, pads-pads, end-counts}
 use Rattle.writing.specs.Text.{lineEnd, inLines, writtenLines, writtenText, writtenSize}
 use Rattle.writing.specs.Meaning.{LFOnly, StrictText}
-use Rattle.writing.proofs.Lines.{length-lines, characters-lines, pads-lines, all-lines, lines-strict, charsThenPads, end-front, end-lf-only, strict-lines-written}
+use Rattle.writing.proofs.Lines.{length-lines, characters-lines, pads-lines, all-lines, lines-strict, end-front, end-lf-only, strict-lines-written}
 
 -- ---- the characters of data
 
@@ -155,10 +158,6 @@ strict-body-written (StrictBody.strict e rest he l) h =
     let lines : inLines lineChars (charsThenPads (e ++ rest)) ≡ rest = ap (inLines lineChars) (end-front rest he) ∙ strict-lines-written l (all-back NoCR e rest h) in
     λ i. end i ++ lines i
 
--- What is encoded again from a consistent body is its characters and pads.
-encoded-again : (r : Reading) → Consistent Strict r → encode (dataOf r) ≡ charsThenPads (r .body)
-encoded-again r c = encode-decode (characters (r .body)) (padCount (r .body)) (characters-all (r .body)) (c .counts) (c .spare)
-
 -- The parts of a text without CR have none.
 module _ (r : Reading) (h : LFOnly (textOf r)) where
   behind-opening : LFOnly (r .body ++ (closing (r .closingLabel) ++ r .after))
@@ -173,7 +172,7 @@ module _ (r : Reading) (h : LFOnly (textOf r)) where
 pub reading-written : (r : Reading) → Shape Strict r → Consistent Strict r → LFOnly (textOf r) → r ≡ writtenReading (r .openingLabel) (dataOf r)
 reading-written r s c h =
     let body : r .body ≡ lineEnd ++ inLines lineChars (encode (dataOf r)) =
-    sym (strict-body-written (s .body) (body-lf-only r h)) ∙ ap (λ (l : List ℕ). lineEnd ++ inLines lineChars l) (sym (encoded-again r c)) in
+    sym (strict-body-written (s .body) (body-lf-only r h)) ∙ ap (λ (l : List ℕ). lineEnd ++ inLines lineChars l) (encoded-again strict-standard r c) in
     let closed : r .closingLabel ≡ r .openingLabel = sym (c .labels) in
     let after : r .after ≡ lineEnd = end-lf-only (s .after) (after-lf-only r h) in
     λ i. record { before = s .before i; openingLabel = r .openingLabel; body = body i; closingLabel = closed i; after = after i }
