@@ -4,11 +4,11 @@ use mathlib.Core.List.{List, [], _∷_, _++_}
 use Prim.Native.Nat.{ℕ, _-_}
 use lib.ListN.{length, replicate}
 use Rattle.base64.specs.Lists.{All}
-use Rattle.grammar.specs.Samples.{beginA, endB, M, unendedM}
+use Rattle.grammar.specs.Samples.{beginA, endB, around, M, unendedM}
 use Rattle.reading.specs.Answers.{offset}
 use Rattle.reading.specs.Samples.{Row, RowHolds, row}
 use Rattle.reading.specs.declared.Refusal.{Refusal}
-use Rattle.reading.specs.declared.Refusal.the-variants.{BadOpening, BadClosing, LabelsDiffer}
+use Rattle.reading.specs.declared.Refusal.the-variants.{BadOpening, BadClosing, LabelsDiffer, SpareBits}
 use Rattle.indexing.specs.Answers.{tableSize}
 use Rattle.indexing.specs.Meaning.{Indexes}
 use Rattle.indexing.specs.declared.IndexAnswer.{IndexAnswer}
@@ -38,6 +38,10 @@ tableFor (needs n) = replicate room 0
 abbrev pub Holds : ℕ → List ℕ → Outcome → Type 0
 Holds number text o = Indexes text number room (answerFor o) (tableFor o)
 
+-- M with `Zh==`.
+abbrev pub withSpareBits : List ℕ
+withSpareBits = around (10 ∷ 90 ∷ 104 ∷ 61 ∷ 61 ∷ 10 ∷ [])
+
 -- M closing with B.
 abbrev pub closedByB : List ℕ
 closedByB = beginA ++ (10 ∷ 90 ∷ 103 ∷ 61 ∷ 61 ∷ 10 ∷ (endB ++ (10 ∷ [])))
@@ -50,6 +54,9 @@ no5 n = refused (BadClosing (offset n))
 
 abbrev pub no7 : ℕ → Outcome
 no7 n = refused (LabelsDiffer (offset n))
+
+abbrev pub no9 : ℕ → Outcome
+no9 n = refused (SpareBits (offset n))
 
 abbrev pub twice : Outcome
 twice = accepted (2 ∷ 0 ∷ 39 ∷ 11 ∷ 1 ∷ 1 ∷ 39 ∷ 39 ∷ 50 ∷ 1 ∷ 1 ∷ [])
@@ -77,6 +84,9 @@ rows =
     ∷ row (closedByB ++ (45 ∷ [])) (no7 32) (no7 32) (no7 32)
     -- labels that differ in the second
     ∷ row (M ++ closedByB) (no7 71) (no7 71) (no7 71)
+    -- spare bits in the second, and in the first before a second whose labels differ (K8)
+    ∷ row (M ++ withSpareBits) twice (no9 58) (no9 58)
+    ∷ row (withSpareBits ++ closedByB) (no7 71) (no9 19) (no9 19)
     -- M three times: 16 numbers are needed
     ∷ row (M ++ (M ++ M)) (needs 16) (needs 16) (needs 16)
     ∷ []

@@ -141,20 +141,19 @@ fn labels_agree(text: &[u8], layout: Layout) -> bool
     equal(part_at(text, opened), part_at(text, closed))
 }
 
-// Whether the spare bits are as the grammar asks: zero under strict.
+// Whether the spare bits are as the grammar asks: zero under standard and strict.
 fn spare_clear(text: &[u8], grammar: Grammar, layout: Layout, tally: Tally) -> bool
     requires { ⌜ lastAt layout tally < length (now text) ⌝ }
     ensures { λ r. ⌜ r ≡ spareClear grammar (now (text .entry)) layout tally ⌝ }
 {
+    let body = layout.body;
+    let start = body.at;
+    let at = start.0 + tally.last;
+    let zero = spare_bits(tally.characters, text[at]) == 0;
     match grammar {
         Grammar::Lax => true,
-        Grammar::Standard => true,
-        Grammar::Strict => {
-            let body = layout.body;
-            let start = body.at;
-            let at = start.0 + tally.last;
-            spare_bits(tally.characters, text[at]) == 0
-        }
+        Grammar::Standard => zero,
+        Grammar::Strict => zero,
     }
 }
 

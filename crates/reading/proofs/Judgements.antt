@@ -26,7 +26,7 @@ use Rattle.reading.specs.Answers.{offset, byteCount}
 use Rattle.reading.specs.Meaning as rows
 use Rattle.reading.specs.Meaning.{labelStart, bodyStart, closingStart, closingLabelStart, Sound, GrammarFails, MessageFails}
 use Rattle.reading.specs.Data.{sameBytes, spareOf}
-use Rattle.reading.specs.Read.{layoutOf, grammarRefusal, countsFit, spareClear, judgedParts}
+use Rattle.reading.specs.Read.{layoutOf, grammarRefusal, countsFit, spareAsked, spareClear, judgedParts}
 use Rattle.reading.specs.declared.Judgement.{Judgement}
 use Rattle.reading.specs.declared.Judgement.the-variants as judgement
 use Rattle.reading.specs.declared.Refusal.{Refusal}
@@ -39,9 +39,7 @@ use Rattle.reading.proofs.Checks.{counts-fit-true, counts-fit-test}
 -- ---- The checks 6 to 9 of a reading
 
 abbrev spareZero : Grammar → List ℕ → Bool
-spareZero Lax cs = true
-spareZero Standard cs = true
-spareZero Strict cs = eqb (spareBits (valuesOf cs)) 0
+spareZero g cs = spareAsked g (eqb (spareBits (valuesOf cs)) 0)
 
 abbrev soundReading : ℕ → Reading → Judgement
 soundReading from r = judgement.Sound (readingLayout from r) (byteCount (length (dataOf r)))
@@ -72,9 +70,7 @@ spare-agrees front r back =
 
 spare-clear-zero : (g : Grammar) (front : List ℕ) (r : Reading) (back : List ℕ)
     → spareClear g (front ++ (textOf r ++ back)) (readingLayout (length front) r) (tallyOf r) ≡ spareZero g (characters (r .body))
-spare-clear-zero Lax front r back = refl
-spare-clear-zero Standard front r back = refl
-spare-clear-zero Strict front r back = ap (λ n. eqb n 0) (spare-agrees front r back)
+spare-clear-zero g front r back = ap (λ n. spareAsked g (eqb n 0)) (spare-agrees front r back)
 
 pub parts-judged : (g : Grammar) (front : List ℕ) (r : Reading) (back : List ℕ)
     → judgedParts g (front ++ (textOf r ++ back)) (layoutOf (length front) (tallyOf r)) (tallyOf r) ≡ judgedReading g (length front) r
@@ -92,18 +88,18 @@ pub data Verdict (g : Grammar) (from : ℕ) (r : Reading) : Judgement → Type 0
 -- Spare bits are zero as the grammar asks exactly where the test says so.
 spare-zero-true : (g : Grammar) (cs : List ℕ) → spareZero g cs ≡ true → message.SpareBits g cs
 spare-zero-true Lax cs e = tt
-spare-zero-true Standard cs e = tt
+spare-zero-true Standard cs e = eqb-true _ _ e
 spare-zero-true Strict cs e = eqb-true _ _ e
 
 spare-zero-test : (g : Grammar) (cs : List ℕ) → message.SpareBits g cs → spareZero g cs ≡ true
 spare-zero-test Lax cs h = refl
-spare-zero-test Standard cs h = refl
+spare-zero-test Standard cs h = eq-eqb _ _ h
 spare-zero-test Strict cs h = eq-eqb _ _ h
 
 -- Spare bits that are not zero have a character.
 spare-some : (g : Grammar) (l : List ℕ) → ¬ message.SpareBits g (characters l) → characters l ≢ []
 spare-some Lax l n e = n tt
-spare-some Standard l n e = n tt
+spare-some Standard l n e = n (rw e)
 spare-some Strict l n e = n (rw e)
 
 -- A test that is false refutes what passes it.

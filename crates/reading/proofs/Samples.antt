@@ -14,7 +14,7 @@ use Rattle.grammar.specs.Message.{characters, padCount}
 use Rattle.reading.specs.Answers.{offset, byteCount, span, refusalNumber, refusalPlace, numberOf, placeOf, sizeOf, labelOffsetOf, labelLengthOf}
 use Rattle.reading.specs.Data.{sameBytes}
 use Rattle.reading.specs.Read.{readOf, outputOf}
-use Rattle.reading.specs.Samples.{Outcome, room, answerFor, outputFor, Row, Holds, RowHolds, rows, splitPads, Samples}
+use Rattle.reading.specs.Samples.{Outcome, room, answerFor, outputFor, Row, Holds, RowHolds, rows, splitPads, spareBits, Samples}
 use Rattle.reading.specs.declared.Found.{Found}
 use Rattle.reading.specs.declared.ReadAnswer.{ReadAnswer}
 use Rattle.reading.specs.declared.ReadAnswer.the-variants.{Accepted, Refused, OutputTooSmall}
@@ -122,4 +122,4 @@ outcome-holds number text o t =
 
 pub samples : Samples
 unfolding valueOf placeIn alphabet characters padCount sameBytes
-samples = rows-hold outcomeTest Holds outcome-holds (rows ++ splitPads) tt
+samples = rows-hold outcomeTest Holds outcome-holds (rows ++ (splitPads ++ spareBits)) tt

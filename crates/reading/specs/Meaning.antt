@@ -93,7 +93,7 @@ pub data MessageFails (g : Grammar) (from : ℕ) (r : Reading) : Refusal → Typ
   -- 8: n and p do not fit; first hyphen of the closing
   badCounts : length (r .openingLabel) ≤ labelLimit → r .openingLabel ≡ r .closingLabel
       → ¬ CountsFit (length (characters (r .body))) (padCount (r .body)) → MessageFails g from r (BadCounts (offset (from + closingStart r)))
-  -- 9: spare bits not zero, grammar 3; last alphabet character
+  -- 9: spare bits not zero, grammars 2 and 3 (K8; before it, "grammar 3"); last alphabet character
   spareBits : length (r .openingLabel) ≤ labelLimit → r .openingLabel ≡ r .closingLabel
       → CountsFit (length (characters (r .body))) (padCount (r .body)) → ¬ message.SpareBits g (characters (r .body))
       → (a : List ℕ) (c : ℕ) (b : List ℕ) → r .body ≡ a ++ (c ∷ b) → AlphabetChar c → NoCharacter b

@@ -1,5 +1,5 @@
--- The counter samples: the rows of the requirements marked *, and those of pads on two lines, as one list under one claim.
--- Assumes nothing.
+-- The counter samples: the rows of the requirements marked *, those of pads on two lines and those of spare bits, as one list
+-- under one claim. Assumes nothing.
 use mathlib.Core.List.{List, [], _∷_, _++_}
 use Prim.Native.Nat.{ℕ, _-_}
 use lib.ListN.{length, replicate}
@@ -72,8 +72,8 @@ abbrev pub rows : List (Row Outcome)
 rows =
     -- M
     row M (accepted (102 ∷ [])) (accepted (102 ∷ [])) (accepted (102 ∷ []))
-    -- M with `Zh==`
-    ∷ row (around (10 ∷ 90 ∷ 104 ∷ 61 ∷ 61 ∷ 10 ∷ [])) (accepted (102 ∷ [])) (accepted (102 ∷ [])) (no9 19)
+    -- M with `Zh==` (K8; before it, 66 hex under standard)
+    ∷ row (around (10 ∷ 90 ∷ 104 ∷ 61 ∷ 61 ∷ 10 ∷ [])) (accepted (102 ∷ [])) (no9 19) (no9 19)
     -- M without last LF
     ∷ row unendedM (accepted (102 ∷ [])) (accepted (102 ∷ [])) (no5 38)
     -- M without `Zg==` and its LF
@@ -133,6 +133,27 @@ splitPads =
     ∷ row (around (10 ∷ 90 ∷ 109 ∷ 56 ∷ 61 ∷ 10 ∷ 61 ∷ 10 ∷ [])) (no8 25) (no8 25) (no4 23)
     ∷ []
 
+-- K8: spare bits, in place of M's `Zg==`. The last character has them, wherever the pads stand.
+abbrev pub spareBits : List (Row Outcome)
+spareBits =
+    -- `Zo==`: the first of four
+    row (around (10 ∷ 90 ∷ 111 ∷ 61 ∷ 61 ∷ 10 ∷ [])) (accepted (102 ∷ [])) (no9 19) (no9 19)
+    -- `Zm9=`: one of two
+    ∷ row (around (10 ∷ 90 ∷ 109 ∷ 57 ∷ 61 ∷ 10 ∷ [])) (accepted (102 ∷ 111 ∷ [])) (no9 20) (no9 20)
+    -- `Zm9v`: a whole group has none
+    ∷ row (around (10 ∷ 90 ∷ 109 ∷ 57 ∷ 118 ∷ 10 ∷ [])) (accepted (102 ∷ 111 ∷ 111 ∷ [])) (accepted (102 ∷ 111 ∷ 111 ∷ [])) (accepted (102 ∷ 111 ∷ 111 ∷ []))
+    -- `Zh=`: the counts are judged before
+    ∷ row (around (10 ∷ 90 ∷ 104 ∷ 61 ∷ 10 ∷ [])) (no8 22) (no8 22) (no4 21)
+    -- `Zh=`, LF, `=`
+    ∷ row (around (10 ∷ 90 ∷ 104 ∷ 61 ∷ 10 ∷ 61 ∷ 10 ∷ [])) (accepted (102 ∷ [])) (no9 19) (no4 21)
+    -- `Zh`, LF, `==`
+    ∷ row (around (10 ∷ 90 ∷ 104 ∷ 10 ∷ 61 ∷ 61 ∷ 10 ∷ [])) (accepted (102 ∷ [])) (no9 19) (no4 20)
+    -- `Zm9`, SP, CRLF, `=`
+    ∷ row (around (10 ∷ 90 ∷ 109 ∷ 57 ∷ 32 ∷ 13 ∷ 10 ∷ 61 ∷ 10 ∷ [])) (accepted (102 ∷ 111 ∷ [])) (no9 20) (no4 21)
+    -- `Z`, LF, `h`, LF, `=`, LF, `=`
+    ∷ row (around (10 ∷ 90 ∷ 10 ∷ 104 ∷ 10 ∷ 61 ∷ 10 ∷ 61 ∷ 10 ∷ [])) (accepted (102 ∷ [])) (no9 20) (no4 19)
+    ∷ []
+
 -- The claim.
 abbrev pub Samples : Type 0
-Samples = All (RowHolds Holds) (rows ++ splitPads)
+Samples = All (RowHolds Holds) (rows ++ (splitPads ++ spareBits))
