@@ -39,6 +39,11 @@ class Texts:
     def characters(self, n):
         return bytes(self.random.choice(oracle.ALPHABET) for _ in range(n))
 
+    def ending(self, n):
+        """So many characters; the last mostly has no spare bits but zeros."""
+        characters = self.characters(n)
+        return characters if self.random.random() < 0.25 else characters[:-1] + self.some([b"A", b"Q", b"g", b"w"], [min(n, 1)])
+
     def line_end(self):
         return self.random.choice([b"\n", b"\n", b"\r\n", b"\r"])
 
@@ -59,7 +64,7 @@ class Texts:
         for _ in range(self.random.choice([0, 1, 2])):
             body += self.characters(self.random.randint(1, 6)) + blanks() + self.line_end()
         pads = self.random.choice([b"", b"", b"=", b"==", b"=" + blanks() + self.line_end() + b"="])
-        return body + self.characters(self.random.randint(0, 6)) + pads + blanks() + self.line_end()
+        return body + self.ending(self.random.randint(0, 6)) + pads + blanks() + self.line_end()
 
     def strict_body(self):
         body = self.line_end()

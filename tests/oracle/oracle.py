@@ -228,7 +228,8 @@ def judged(m, g):
         return 8, m.start("dashes"), b""
     data, spare = decoded(chars)
     assert data == base64.b64decode(chars + b"=" * p)
-    if g == 3 and spare != 0:
+    # Change request K8: grammar 2 refuses them too, lax still drops them.
+    if g in (2, 3) and spare != 0:
         return 9, m.start("body") + len(m["body"].rstrip(NOT_ALPHABET)) - 1, b""
     return 0, 0, data
 

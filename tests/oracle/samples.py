@@ -116,6 +116,23 @@ for name, b in (
 each("Zg=-LF-=", body(b"Zg=\n=\n"), room=0)
 each("closing-B-split", message(b"A", b"Zg=\n=\n", b"B"))
 
+comment("Spare bits: standard and strict refuse them at the last character, wherever the pads stand.")
+for value in range(1, 16):
+    each("four-bits-%d" % value, body(b"Z" + FULL[32 + value:33 + value] + b"==\n"))
+for value in range(1, 4):
+    each("two-bits-%d" % value, body(b"Zm" + FULL[60 + value:61 + value] + b"=\n"))
+for name, b in (
+        ("no-spare-bits", b"Zm9v\n"), ("counts", b"Zh=\n"), ("no-pads", b"Zh\n"), ("pads-below", b"Zh\n==\n"),
+        ("pads-below-CR", b"Zh\r==\r"), ("pads-on-two-lines-below", b"Zh\n=\n=\n"), ("split-CRLF-blanks", b"Zh= \t\r\n=\t\r\n"),
+        ("pad-below", b"Zm9\n=\n"), ("pad-below-blanks", b"Zm9 \t\r\n=\r\n"), ("last-alone", b"Z\nh==\n"),
+        ("last-alone-split", b"Z\nh\n=\n=\n"), ("blank-before-pads", b"Zh ==\n"), ("white-around", b"Z h\v=\f="),
+        ("line-62", FULL[:61] + b"x==\n"), ("line-63", FULL[:62] + b"9=\n"), ("line-62-pads-below", FULL[:62] + b"\n==\n"),
+        ("line-64-2", FULL + b"\nZh==\n"), ("line-64-3", FULL + b"\nZm9=\n"), ("line-64-2-split", FULL + b"\nZh=\n=\n"),
+        ("line-64-64-2-pads-below", FULL + b"\n" + FULL + b"\nZh\n==\n"), ("line-66", FULL + b"Zh==\n")):
+    each(name + "-spare", body(b))
+each("two-bits-1", body(b"Zm9=\n"), room=1)
+each("Zm8=", body(b"Zm8=\n"), room=1)
+
 comment("Labels.")
 each("label-64", message(b"L" * 64, b"Zg==\n"))
 each("label-65", message(b"L" * 65, b"Zg==\n"))
@@ -360,6 +377,8 @@ index("closing-65", M + message(b"A", b"Zg==\n", b"L" * 65))
 index("counts", M + body(b"Zg=\n") + M)
 index("spare-bits", M + body(b"Zh==\n") + M)
 index("spare-bits-in-the-third", M + M + body(b"Zm9=\n"))
+index("spare-bits-split-pads", M + body(b"Zh=\n=\n") + M)
+index("spare-bits-pads-below", body(b"Zm9v\nZh\n==\n") + M)
 index("begin", M + M.replace(b"BEGIN", b"begin"))
 index("pads", M + body(b"Zg===\n"))
 index("split-pads", M + body(b"Zg=\n=\n") + M)

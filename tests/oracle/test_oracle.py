@@ -19,7 +19,7 @@ def body(b):
 F = b"\x66"
 TABLE = [
     ("M", M, F, F, F),
-    ("Zh==", body(b"Zh==\n"), F, F, (9, 19)),
+    ("Zh==", body(b"Zh==\n"), F, (9, 19), (9, 19)),
     ("no last LF", M[:-1], F, F, (5, 38)),
     ("no body", body(b""), b"", (4, 18), (4, 18)),
     ("empty line", body(b"\n"), b"", b"", (4, 18)),
@@ -55,7 +55,21 @@ SPLIT = [
     ("one pad", b"Zm8=\n", b"fo", b"fo", b"fo"),
     ("counts", b"Zm8=\n=\n", (8, 25), (8, 25), (4, 23)),
 ]
-TABLE += [(name, body(b), *wants) for name, b, *wants in SPLIT]
+# Change request K8: spare bits, by its words and 01's, whose place is the last alphabet character.
+SPARE = [
+    ("the first of four bits", b"Zo==\n", F, (9, 19), (9, 19)),
+    ("one of two bits", b"Zm9=\n", b"fo", (9, 20), (9, 20)),
+    ("the other of two bits", b"Zm+=\n", b"fo", (9, 20), (9, 20)),
+    ("no spare bits", b"Zm9v\n", b"foo", b"foo", b"foo"),
+    ("counts before spare bits", b"Zh=\n", (8, 22), (8, 22), (4, 21)),
+    ("pads on two lines", b"Zh=\n=\n", F, (9, 19), (4, 21)),
+    ("pads on the next line", b"Zh\n==\n", F, (9, 19), (4, 20)),
+    ("pads on the next two lines", b"Zh\r\n= \r=\n", F, (9, 19), (4, 20)),
+    ("the pad on the next line", b"Zm9 \r\n=\n", b"fo", (9, 20), (4, 21)),
+    ("the last character on a line of its own", b"Z\nh==\n", F, (9, 20), (4, 19)),
+    ("white around it", b"Z h\v=\f=", F, (4, 20), (4, 19)),
+]
+TABLE += [(name, body(b), *wants) for name, b, *wants in SPLIT + SPARE]
 assert len(M) == 39
 for row in TABLE:
     for g in (1, 2, 3):
@@ -109,8 +123,8 @@ BUNDLES = [
     ("opening without its last hyphen behind", M + M[:16], (3, 55), (3, 55), (3, 55)),
     ("body behind", M + M[:23], (4, 62), (4, 62), (4, 62)),
     ("hyphen of a closing behind", M + M[:24], (5, 63), (5, 63), (5, 63)),
-    ("Zh== in the second", M + body(b"Zh==\n") + M, [3] + TWO[1:] + [78, 39, 89, 1, 1], [3] + TWO[1:] + [78, 39, 89, 1, 1],
-     (9, 58)),
+    ("Zh== in the second", M + body(b"Zh==\n") + M, [3] + TWO[1:] + [78, 39, 89, 1, 1], (9, 58), (9, 58)),
+    ("Zh== in the first, closing B in the second", body(b"Zh==\n") + M[:32] + b"B" + M[33:], (7, 71), (9, 19), (9, 19)),
     ("Zg= in the second", M + body(b"Zg=\n"), (8, 61), (8, 61), (4, 60)),
     ("closing B in the second", M + M[:32] + b"B" + M[33:], (7, 71), (7, 71), (7, 71)),
     ("closing B, then x", M[:32] + b"B" + M[33:] + b"x", (7, 32), (7, 32), (7, 32)),
