@@ -1,8 +1,9 @@
 //! The cases that are the same in every run: samples, long texts, and small spaces of inputs in full.
 
+use crate::bits;
 use crate::paper::{BEGIN, END, HYPHENS, LABEL_LIMIT};
 use crate::random::Random;
-use crate::samples::{m_with, rows, split_pads, M};
+use crate::samples::{m_with, rows, spare_bits, split_pads, M};
 use crate::texts::{label_of, long_message, stretched, LONG_DATA, LONG_TEXT};
 use crate::trial::{Rooms, Trial};
 
@@ -30,6 +31,7 @@ pub fn run(trial: &mut Trial, random: &mut Random) {
     mixed_line_ends(trial, random);
     small_bodies(trial, random);
     small_ends(trial, random);
+    last_characters(trial, random);
     small_tails(trial, random);
     small_labels(trial, random);
     label_lengths(trial, random);
@@ -39,7 +41,7 @@ pub fn run(trial: &mut Trial, random: &mut Random) {
 
 /// The paper's rows, bundles of them, and every start of a bundle: with all rooms.
 fn samples(trial: &mut Trial) {
-    let rows = rows().into_iter().chain(split_pads());
+    let rows = rows().into_iter().chain(split_pads()).chain(spare_bits());
     let rows: Vec<Vec<u8>> = rows.map(|(text, _)| text).collect();
     let pairs = rows
         .iter()
@@ -104,10 +106,23 @@ fn mixtures(lines: &str) -> Vec<Vec<u8>> {
     })
 }
 
-/// All that may stand behind the characters of a body, up to some length.
+/// All that may stand behind the characters of a body, up to some length. Their spare bits are zero, or are not.
 fn small_ends(trial: &mut Trial, random: &mut Random) {
     for end in words(&[b"=", b" ", b"\n", b"\r", b"A"], 6) {
-        trial.text(&m_with(&[b"\nZg", end.as_slice()].concat()), &mut Rooms::Two(random));
+        for characters in [b"\nZg".as_slice(), b"\nZh", b"\nZm9"] {
+            trial.text(&m_with(&[characters, &end].concat()), &mut Rooms::Two(random));
+        }
+    }
+}
+
+/// Each alphabet character as the last of one to five, with no pad, one or two, on its line or below.
+fn last_characters(trial: &mut Trial, random: &mut Random) {
+    let ends: [&[u8]; 7] = [b"\n", b"=\n", b"\n=\n", b"==\n", b"=\n=\n", b"\n==\n", b"\n=\n=\n"];
+    for before in words(&[b"Z"], 4) {
+        for (last, end) in (0..64).flat_map(|value| ends.map(|end| (bits::character(value), end))) {
+            let body = [b"\n", before.as_slice(), &[last], end].concat();
+            trial.text(&m_with(&body), &mut Rooms::Two(random));
+        }
     }
 }
 

@@ -506,7 +506,8 @@ fn data_of(grammar: Grammar, text: &[u8], opening: usize, closing: usize) -> Res
         });
     }
     let (data, spare) = bits::decode(&characters);
-    if grammar.number == STRICT && spare.contains(&true) {
+    // Change request K8: only lax drops them.
+    if grammar.number != LAX && spare.contains(&true) {
         let last = body
             .iter()
             .rposition(|byte| is_character(&byte))

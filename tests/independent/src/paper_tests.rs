@@ -2,7 +2,7 @@
 //! accepted at a limit takes too long here, and is in `limits.rs`.
 
 use crate::paper::{answer, label_part, Answer, Paper, Refusal, GRAMMARS, LAX, STANDARD, STRICT};
-use crate::samples::{m_with, rows, split_pads, M};
+use crate::samples::{m_with, rows, spare_bits, split_pads, M};
 
 const ROOM: usize = 100;
 const TABLE_OF_TWO: [u32; 11] = [2, 0, 39, 11, 1, 1, 39, 39, 50, 1, 1];
@@ -56,9 +56,9 @@ fn message(label: &[u8], body: &[u8]) -> Vec<u8> {
 }
 
 #[test]
-fn every_row_of_the_table_and_of_pads_on_two_lines() {
+fn every_row_of_the_table_and_of_the_requests() {
     assert_eq!(rows().len(), 15);
-    for (text, samples) in rows().into_iter().chain(split_pads()) {
+    for (text, samples) in rows().into_iter().chain(split_pads()).chain(spare_bits()) {
         let label_offset = 11 + text.iter().take_while(|&&byte| byte == b' ').count();
         let expected = samples.map(|sample| match sample {
             Ok(data) => accepted(data, (label_offset, 1)),

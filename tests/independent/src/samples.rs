@@ -1,4 +1,4 @@
-//! The paper's "Counter samples": M and the rows of the table, and rows of change request K9.
+//! The paper's "Counter samples": M and the rows of the table, and rows of change requests K9 and K8.
 
 /// The M of the paper.
 pub const M: &[u8] = b"-----BEGIN A-----\nZg==\n-----END A-----\n";
@@ -17,7 +17,7 @@ pub fn rows() -> Vec<(Vec<u8>, [Sample; 3])> {
     let none: Sample = Ok(b"");
     vec![
         (M.to_vec(), [f; 3]),
-        (m_with(b"\nZh==\n"), [f, f, Err((9, 19))]),
+        (m_with(b"\nZh==\n"), [f, Err((9, 19)), Err((9, 19))]),
         (M[..38].to_vec(), [f, f, Err((5, 38))]),
         (m_with(b"\n"), [none, Err((4, 18)), Err((4, 18))]),
         (m_with(b"\n\n"), [none, none, Err((4, 18))]),
@@ -61,4 +61,26 @@ pub fn split_pads() -> Vec<(Vec<u8>, [Sample; 3])> {
     let accepted = accepted.iter().map(|body| (m_with(body), [f, f, no(21)]));
     let others = others.iter().map(|&(body, samples)| (m_with(body), samples));
     accepted.chain(others).collect()
+}
+
+/// M with spare bits that are not zero, after change request K8; the last two have none, or counts that do not fit.
+pub fn spare_bits() -> Vec<(Vec<u8>, [Sample; 3])> {
+    let f: Sample = Ok(b"\x66");
+    let fo: Sample = Ok(b"\x66\x6f");
+    let foo: Sample = Ok(b"\x66\x6f\x6f");
+    let spare = |place: usize| -> Sample { Err((9, place)) };
+    let no = |place: usize| -> Sample { Err((4, place)) };
+    let rows: [(&[u8], [Sample; 3]); 10] = [
+        (b"\nZo==\n", [f, spare(19), spare(19)]),
+        (b"\nZm9=\n", [fo, spare(20), spare(20)]),
+        (b"\nZm+=\n", [fo, spare(20), spare(20)]),
+        (b"\nZh=\n=\n", [f, spare(19), no(21)]),
+        (b"\nZh\n==\n", [f, spare(19), no(20)]),
+        (b"\nZh \r\n=\r=\t\n", [f, spare(19), no(20)]),
+        (b"\nZm9\n=\n", [fo, spare(20), no(21)]),
+        (b"\nZ\nh\n=\n=\n", [f, spare(20), no(19)]),
+        (b"\nZm9v\n", [foo; 3]),
+        (b"\nZh=\n", [Err((8, 22)), Err((8, 22)), no(21)]),
+    ];
+    rows.iter().map(|&(body, samples)| (m_with(body), samples)).collect()
 }

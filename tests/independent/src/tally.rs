@@ -105,7 +105,7 @@ impl Tally {
     }
 }
 
-/// Strict bodies fit by their grammar, only strict looks at spare bits, and the label call has no room.
+/// Strict bodies fit by their grammar, lax drops spare bits, and the label call has no room.
 fn listed_for(call: Call, grammar: u32) -> impl Iterator<Item = u32> {
     let numbers: &[u32] = match (call, grammar) {
         (Call::Write, 0) => &BY_WRITER,
@@ -115,7 +115,7 @@ fn listed_for(call: Call, grammar: u32) -> impl Iterator<Item = u32> {
     };
     numbers.iter().copied().filter(move |&number| match number {
         COUNTS_DO_NOT_FIT => grammar != STRICT,
-        SPARE_BITS => grammar == STRICT,
+        SPARE_BITS => grammar != LAX,
         SMALL_OUTPUT => call != Call::Label,
         _ => true,
     })
