@@ -23,8 +23,9 @@ extern "C" {
 
 /* Grammars. Each strict text is a standard text, and each standard text a lax one, with the same labels and data. */
 enum zullifern_grammar {
-    ZULLIFERN_LAX = 1,      /* white around the message and anywhere between the characters of its data */
-    ZULLIFERN_STANDARD = 2, /* data lines of any length, blanks behind them; the second pad may stand on the next line */
+    ZULLIFERN_LAX = 1,      /* white around the message and anywhere between the characters of its data; spare bits dropped */
+    ZULLIFERN_STANDARD = 2, /* data lines of any length, blanks behind them; the second pad may stand on the next line;
+                               spare bits zero */
     ZULLIFERN_STRICT = 3    /* lines of 64 characters but for the last, no blanks, spare bits zero: what is written */
 };
 
@@ -39,7 +40,7 @@ enum zullifern_number {
     ZULLIFERN_LABEL_TOO_LONG = 6,   /* the opening label is over ZULLIFERN_LABEL_LIMIT bytes; place: its first byte */
     ZULLIFERN_LABELS_DIFFER = 7,    /* the labels differ; place: where the closing label starts */
     ZULLIFERN_COUNTS_DO_NOT_FIT = 8, /* characters and pads are no whole number of bytes; place: the closing */
-    ZULLIFERN_SPARE_BITS = 9,       /* strict only: spare bits are not zero; place: the last alphabet character */
+    ZULLIFERN_SPARE_BITS = 9,       /* standard and strict: spare bits are not zero; place: the last alphabet character */
     ZULLIFERN_NO_ROOM = 10,         /* the lent output or table is too small; the report's size tells what is needed */
     ZULLIFERN_WRITE_LABEL_TOO_LONG = 11, /* the label is over ZULLIFERN_LABEL_LIMIT bytes */
     ZULLIFERN_WRITE_NOT_A_LABEL = 12,    /* it is none: empty, or 33 to 126 with one hyphen or space at most between two others */

@@ -33,7 +33,7 @@ static const char *meaning(uint32_t number)
     case ZULLIFERN_LABEL_TOO_LONG: return "the label is too long";
     case ZULLIFERN_LABELS_DIFFER: return "the closing label is not the opening label";
     case ZULLIFERN_COUNTS_DO_NOT_FIT: return "characters and pads are no whole number of bytes";
-    case ZULLIFERN_SPARE_BITS: return "spare bits are not zero";
+    case ZULLIFERN_SPARE_BITS: return "spare bits are not zero, which standard and strict refuse";
     default: return "it cannot be read";
     }
 }

@@ -69,7 +69,9 @@ static void numbers_of_read(void)
     reads("-----BEGIN A-----\nZg==\n-----END B-----\n", ZULLIFERN_STRICT, 1, ZULLIFERN_LABELS_DIFFER, 32);
     reads("-----BEGIN A-----\nZg=\n-----END A-----\n", ZULLIFERN_LAX, 1, ZULLIFERN_COUNTS_DO_NOT_FIT, 22);
     reads("-----BEGIN A-----\nZh==\n-----END A-----\n", ZULLIFERN_STRICT, 1, ZULLIFERN_SPARE_BITS, 19);
-    reads("-----BEGIN A-----\nZh==\n-----END A-----\n", ZULLIFERN_STANDARD, 1, ZULLIFERN_ACCEPTED, 0);
+    reads("-----BEGIN A-----\nZh==\n-----END A-----\n", ZULLIFERN_STANDARD, 1, ZULLIFERN_SPARE_BITS, 19);
+    reads("-----BEGIN A-----\nZh=\n=\n-----END A-----\n", ZULLIFERN_STANDARD, 1, ZULLIFERN_SPARE_BITS, 19);
+    reads("-----BEGIN A-----\nZh==\n-----END A-----\n", ZULLIFERN_LAX, 1, ZULLIFERN_ACCEPTED, 0);
     reads(M, ZULLIFERN_LAX, 0, ZULLIFERN_NO_ROOM, 0);
 }
 

@@ -36,6 +36,7 @@ TEXTS = [
     MESSAGE[:-1] + MESSAGE,
     MESSAGE + b"x",
     MESSAGE.replace(b"Zg==", b"Zh=="),
+    MESSAGE + MESSAGE.replace(b"Zg==", b"Zm9\n="),
     MESSAGE.replace(b"Zg==", b"Zg="),
     MESSAGE.replace(b"Zg==", b"Zg=\n="),
     MESSAGE.replace(b"Zg==", b"Zg=\n ="),

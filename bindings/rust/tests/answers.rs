@@ -57,7 +57,9 @@ fn refusals_of_read() -> Vec<(String, Grammar, Refusal, &'static str)> {
         (M.replace("Zg==", "Zg="), Grammar::Lax, Refusal::CountsDoNotFit { place: place(22, 3, 1, false) },
          "the base64 characters and pads before line 3, column 1 (offset 22) are no whole number of bytes"),
         (M.replace("Zg==", "Zh=="), Grammar::Strict, Refusal::SpareBits { place: place(19, 2, 2, false) },
-         "the last base64 character, at line 2, column 2 (offset 19), has spare bits that are not zero"),
+         "the last base64 character, at line 2, column 2 (offset 19), has spare bits that are not zero, which standard and strict refuse"),
+        (M.replace("Zg==", "Zm9\n="), Grammar::Standard, Refusal::SpareBits { place: place(20, 2, 3, false) },
+         "the last base64 character, at line 2, column 3 (offset 20), has spare bits that are not zero, which standard and strict refuse"),
         (M.replace("Zg==", "Zm9vYmFyYmF6"), Grammar::Strict, Refusal::OutputTooSmall { needed: 9 },
          "the lent output is too small: the data need 9 bytes"),
     ]
@@ -71,7 +73,7 @@ fn each_refusal_of_read_has_its_number_place_and_text() {
         assert_eq!((found, found.to_string().as_str()), (*refusal, *words));
     }
     let numbers: Vec<u32> = rows.iter().map(|row| row.2.number()).collect();
-    assert_eq!(numbers, [2, 3, 3, 4, 5, 5, 6, 7, 8, 9, 10]);
+    assert_eq!(numbers, [2, 3, 3, 4, 5, 5, 6, 7, 8, 9, 9, 10]);
 }
 
 #[test]
