@@ -123,6 +123,8 @@ def pads(s):
         s.one("the same, a blank line between them", s.last(rest + b"=\n\n="), "standard: one line end between pads"),
         s.one("pads on a line of their own", s.last(rest + b"\n=="), "strict: pads end a group"),
         s.one("spare bits not zero", s.last(spare), "standard: spare bits zero; lax drops them"),
+        s.one("the same, pads split by a line end", s.last(spare[:-1] + b"\n="),
+              "standard: spare bits zero; strict: pads together"),
         s.one("data after the pads, same line", s.last(end + b"AAAA"), "nothing but white behind a pad"),
         s.one("data after the pads, next line", s.last(end + b"\nAAAA"), "nothing but white behind a pad"),
     ]
