@@ -168,6 +168,8 @@ READ_STANDARD = [
     Family("cut at the end", (BEGIN, [LINE], CLOSING[:-1], DUE), 5),
     Family("wrong last byte", (BEGIN, [LINE], END, DUE, b"A"), 5),
     Family("one character too many", (BEGIN, [LINE], b"A\n", DUE, END), 8),
+    Family("spare bits at the end", (BEGIN, [LINE], b"Z", DUE, b"h==\n", END), 9),
+    Family("spare bits, blanks before the pads", (BEGIN, b"Z", DUE, b"h", [BLANKS], b"\n=\n=\n", END), 9),
 ]
 
 READ_LAX = [
@@ -254,6 +256,7 @@ INDEX_STANDARD = [
     Family("lines of a blank", (BEGIN, [b" \n"], PADDED, END)),
     Family("last message unfinished", ([SHORT], BEGIN, b"Zg", DUE), 4),
     Family("last message with a character too many", ([SHORT], BEGIN, b"Zg=\n", DUE, END), 8),
+    Family("spare bits at the end", ([SHORT], BEGIN, b"Z", DUE, b"h=\n=\n", END), 9),
 ]
 
 INDEX_LAX = [
