@@ -16,7 +16,7 @@ ghost use Rattle.machine.proofs.Machine.{start};
 ghost use Rattle.reading.specs.Answers.{refusalNumber, refusalPlace, numberOf};
 ghost use Rattle.reading.specs.Meaning.{Reads, HandsBack};
 ghost use Rattle.reading.specs.Scan.{noTally, scanOf};
-ghost use Rattle.reading.specs.Read.{Fits, Lies, spanned, layoutOf, grammarRefusal, labelsAgree, countsFit, lastAt, spareClear, judgedParts, judgedScan, judgedBy, judgeOf, answered, readOf, written, outputOf, labelOf};
+ghost use Rattle.reading.specs.Read.{Fits, Lies, spanned, layoutOf, grammarRefusal, labelsAgree, countsFit, lastAt, spareZero, spareClear, judgedParts, judgedScan, judgedBy, judgeOf, answered, readOf, written, outputOf, labelOf};
 use base64::Value;
 use grammar::Grammar;
 use grammar::Numbered;
@@ -141,19 +141,26 @@ fn labels_agree(text: &[u8], layout: Layout) -> bool
     equal(part_at(text, opened), part_at(text, closed))
 }
 
-// Whether the spare bits are as the grammar asks: zero under standard and strict.
-fn spare_clear(text: &[u8], grammar: Grammar, layout: Layout, tally: Tally) -> bool
+// Whether the spare bits of a body are zero.
+fn spare_zero(text: &[u8], layout: Layout, tally: Tally) -> bool
     requires { ⌜ lastAt layout tally < length (now text) ⌝ }
-    ensures { λ r. ⌜ r ≡ spareClear grammar (now (text .entry)) layout tally ⌝ }
+    ensures { λ r. ⌜ r ≡ spareZero (now (text .entry)) layout tally ⌝ }
 {
     let body = layout.body;
     let start = body.at;
     let at = start.0 + tally.last;
-    let zero = spare_bits(tally.characters, text[at]) == 0;
+    spare_bits(tally.characters, text[at]) == 0
+}
+
+// Whether they are as the grammar asks: zero under standard and strict.
+fn spare_clear(text: &[u8], grammar: Grammar, layout: Layout, tally: Tally) -> bool
+    requires { ⌜ lastAt layout tally < length (now text) ⌝ }
+    ensures { λ r. ⌜ r ≡ spareClear grammar (now (text .entry)) layout tally ⌝ }
+{
     match grammar {
         Grammar::Lax => true,
-        Grammar::Standard => zero,
-        Grammar::Strict => zero,
+        Grammar::Standard => spare_zero(text, layout, tally),
+        Grammar::Strict => spare_zero(text, layout, tally),
     }
 }
 

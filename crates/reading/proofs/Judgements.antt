@@ -38,8 +38,8 @@ use Rattle.reading.proofs.Checks.{counts-fit-true, counts-fit-test}
 
 -- ---- The checks 6 to 9 of a reading
 
-abbrev spareZero : Grammar → List ℕ → Bool
-spareZero g cs = spareAsked g (eqb (spareBits (valuesOf cs)) 0)
+abbrev spareTest : Grammar → List ℕ → Bool
+spareTest g cs = spareAsked g (eqb (spareBits (valuesOf cs)) 0)
 
 abbrev soundReading : ℕ → Reading → Judgement
 soundReading from r = judgement.Sound (readingLayout from r) (byteCount (length (dataOf r)))
@@ -54,7 +54,7 @@ judgedReading g from r =
     (cond
     (countsFit (length (characters (r .body))) (padCount (r .body)))
     (cond
-    (spareZero g (characters (r .body)))
+    (spareTest g (characters (r .body)))
     (soundReading from r)
     (judgement.Refused (SpareBits (offset (from + bodyStart r + lastIndex (r .body))))))
     (judgement.Refused (BadCounts (offset (from + closingStart r)))))
@@ -68,16 +68,16 @@ spare-agrees front r back =
     rw (body-cut front r back, sym (body-front front r))
     (sym (spare-text (front ++ (r .before ++ opening (r .openingLabel))) (r .body) (closing (r .closingLabel) ++ (r .after ++ back))))
 
-spare-clear-zero : (g : Grammar) (front : List ℕ) (r : Reading) (back : List ℕ)
-    → spareClear g (front ++ (textOf r ++ back)) (readingLayout (length front) r) (tallyOf r) ≡ spareZero g (characters (r .body))
-spare-clear-zero g front r back = ap (λ n. spareAsked g (eqb n 0)) (spare-agrees front r back)
+spare-clear-test : (g : Grammar) (front : List ℕ) (r : Reading) (back : List ℕ)
+    → spareClear g (front ++ (textOf r ++ back)) (readingLayout (length front) r) (tallyOf r) ≡ spareTest g (characters (r .body))
+spare-clear-test g front r back = ap (λ n. spareAsked g (eqb n 0)) (spare-agrees front r back)
 
 pub parts-judged : (g : Grammar) (front : List ℕ) (r : Reading) (back : List ℕ)
     → judgedParts g (front ++ (textOf r ++ back)) (layoutOf (length front) (tallyOf r)) (tallyOf r) ≡ judgedReading g (length front) r
 parts-judged g front r back =
     ap (λ l. judgedParts g (front ++ (textOf r ++ back)) l (tallyOf r))
     (layout-reading (length front) r (length (characters (r .body))) (padCount (r .body)) (lastIndex (r .body)))
-    ∙ rw (label-part front r back, closing-label-part front r back, spare-clear-zero g front r back, sym (length-decode (characters (r .body))))
+    ∙ rw (label-part front r back, closing-label-part front r back, spare-clear-test g front r back, sym (length-decode (characters (r .body))))
 
 -- ---- What a judgement of a reading means
 
@@ -86,15 +86,15 @@ pub data Verdict (g : Grammar) (from : ℕ) (r : Reading) : Judgement → Type 0
   fails : {refusal : Refusal} → MessageFails g from r refusal → Verdict g from r (judgement.Refused refusal)
 
 -- Spare bits are zero as the grammar asks exactly where the test says so.
-spare-zero-true : (g : Grammar) (cs : List ℕ) → spareZero g cs ≡ true → message.SpareBits g cs
-spare-zero-true Lax cs e = tt
-spare-zero-true Standard cs e = eqb-true _ _ e
-spare-zero-true Strict cs e = eqb-true _ _ e
+spare-test-true : (g : Grammar) (cs : List ℕ) → spareTest g cs ≡ true → message.SpareBits g cs
+spare-test-true Lax cs e = tt
+spare-test-true Standard cs e = eqb-true _ _ e
+spare-test-true Strict cs e = eqb-true _ _ e
 
-spare-zero-test : (g : Grammar) (cs : List ℕ) → message.SpareBits g cs → spareZero g cs ≡ true
-spare-zero-test Lax cs h = refl
-spare-zero-test Standard cs h = eq-eqb _ _ h
-spare-zero-test Strict cs h = eq-eqb _ _ h
+spare-test-passed : (g : Grammar) (cs : List ℕ) → message.SpareBits g cs → spareTest g cs ≡ true
+spare-test-passed Lax cs h = refl
+spare-test-passed Standard cs h = eq-eqb _ _ h
+spare-test-passed Strict cs h = eq-eqb _ _ h
 
 -- Spare bits that are not zero have a character.
 spare-some : (g : Grammar) (l : List ℕ) → ¬ message.SpareBits g (characters l) → characters l ≢ []
@@ -115,7 +115,7 @@ reading-judged g from r =
     refl
     (countsFit (length (characters (r .body))) (padCount (r .body)))
     refl
-    (spareZero g (characters (r .body)))
+    (spareTest g (characters (r .body)))
     refl
   where
     spare-fails : length (r .openingLabel) ≤ labelLimit → r .openingLabel ≡ r .closingLabel → CountsFit (length (characters (r .body))) (padCount (r .body))
@@ -125,7 +125,7 @@ reading-judged g from r =
         rw (c .index) (rows.spareBits s e f n (c .front) (c .char) (c .back) (c .joined) (c .is-char) (c .none-behind))
 
     go : (a : Bool) → ltb labelLimit (length (r .openingLabel)) ≡ a → (b : Bool) → sameBytes (r .openingLabel) (r .closingLabel) ≡ b → (c : Bool)
-        → countsFit (length (characters (r .body))) (padCount (r .body)) ≡ c → (d : Bool) → spareZero g (characters (r .body)) ≡ d
+        → countsFit (length (characters (r .body))) (padCount (r .body)) ≡ c → (d : Bool) → spareTest g (characters (r .body)) ≡ d
         → Verdict g from r
         (cond a (judgement.Refused (LabelTooLong (offset (from + labelStart r))))
         (cond b
@@ -137,12 +137,12 @@ reading-judged g from r =
     go false ea false eb c ec d ed = fails (rows.labelsDiffer (ltb-false _ _ ea) (same-false _ _ eb))
     go false ea true eb false ec d ed = fails (rows.badCounts (ltb-false _ _ ea) (same-true _ _ eb) (test-refutes (counts-fit-test _ _) ec))
     go false ea true eb true ec false ed =
-        fails (spare-fails (ltb-false _ _ ea) (same-true _ _ eb) (counts-fit-true _ _ ec) (test-refutes (spare-zero-test g (characters (r .body))) ed))
+        fails (spare-fails (ltb-false _ _ ea) (same-true _ _ eb) (counts-fit-true _ _ ec) (test-refutes (spare-test-passed g (characters (r .body))) ed))
     go false ea true eb true ec true ed =
         sound
         record {
           shortLabel = ltb-false _ _ ea;
-          consistent = record { labels = same-true _ _ eb; counts = counts-fit-true _ _ ec; spare = spare-zero-true g (characters (r .body)) ed };
+          consistent = record { labels = same-true _ _ eb; counts = counts-fit-true _ _ ec; spare = spare-test-true g (characters (r .body)) ed };
         }
 
 -- ---- Each row leaves one judgement only
@@ -178,7 +178,7 @@ fails-judged g from r refusal (rows.spareBits s e f n a c b j k m) =
       le-ltb labelLimit (length (r .openingLabel)) s,
       agreed (r .openingLabel) (r .closingLabel) e,
       counts-fit-test (length (characters (r .body))) (padCount (r .body)) f,
-      unpassed (spareZero g (characters (r .body))) (spare-zero-true g (characters (r .body))) n,
+      unpassed (spareTest g (characters (r .body))) (spare-test-true g (characters (r .body))) n,
       last-index (r .body) a c b j k m,
     )
 
@@ -188,7 +188,7 @@ sound-judged g from r s =
       le-ltb labelLimit (length (r .openingLabel)) (s .shortLabel),
       agreed (r .openingLabel) (r .closingLabel) (s .consistent .labels),
       counts-fit-test (length (characters (r .body))) (padCount (r .body)) (s .consistent .counts),
-      spare-zero-test g (characters (r .body)) (s .consistent .spare),
+      spare-test-passed g (characters (r .body)) (s .consistent .spare),
     )
 
 -- ---- The part that was being read decides between 3, 4 and 5

@@ -87,14 +87,17 @@ countsFit n p = cond (eqb (n % 4) 0) (eqb p 0) (cond (eqb (n % 4) 2) (eqb p 2) (
 abbrev pub lastAt : Layout → Tally → ℕ
 lastAt l t = l .body .at .0 + t .last
 
--- What each grammar asks of the spare bits, by whether they are zero: lax drops them.
+abbrev pub spareZero : List ℕ → Layout → Tally → Bool
+spareZero text l t = eqb (spareOf (t .characters) (valueOf (getD text (lastAt l t) 0))) 0
+
+-- What each grammar makes of whether the spare bits are zero: lax drops them.
 abbrev pub spareAsked : Grammar → Bool → Bool
 spareAsked Lax zero = true
 spareAsked Standard zero = zero
 spareAsked Strict zero = zero
 
 abbrev pub spareClear : Grammar → List ℕ → Layout → Tally → Bool
-spareClear g text l t = spareAsked g (eqb (spareOf (t .characters) (valueOf (getD text (lastAt l t) 0))) 0)
+spareClear g text l t = spareAsked g (spareZero text l t)
 
 abbrev pub judgedParts : Grammar → List ℕ → Layout → Tally → Judgement
 judgedParts g text l t =
