@@ -52,7 +52,8 @@ toBytes (a ∷ b ∷ []) = byte1 a b ∷ []
 toBytes (a ∷ b ∷ c ∷ []) = byte1 a b ∷ byte2 b c ∷ []
 toBytes (a ∷ b ∷ c ∷ d ∷ r) = byte1 a b ∷ byte2 b c ∷ byte3 c d ∷ toBytes r
 
--- The bits of the last value that belong to no byte, as a number: four of them behind one byte, two behind two.
+-- The bits of the last value that belong to no byte, as a number: four of them behind one byte, two behind two. (Spare bits is
+-- the requirements' term; RFC 4648 calls them pad bits.)
 abbrev pub spareBits : List ℕ → ℕ
 spareBits [] = 0
 spareBits (a ∷ []) = 0

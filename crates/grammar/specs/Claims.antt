@@ -1,4 +1,4 @@
--- What zero spare bits are for: one data has one base 64 text. Assumes nothing.
+-- What zero spare bits are for: data has one base 64 text. Assumes nothing.
 use mathlib.Core.Path.{_≡_}
 use mathlib.Core.List.{List, _++_}
 use Prim.Native.Nat.{ℕ}
@@ -18,7 +18,7 @@ charsThenPads l = characters l ++ replicate (padCount l) pad
 abbrev pub Canonical : Grammar → Type 0
 Canonical g = (r : Reading) → Shape g r → Consistent g r → charsThenPads (r .body) ≡ encode (dataOf r)
 
--- The claim. Lax drops spare bits, so there one data has several texts, `Zg==` and `Zh==`.
+-- The claim. Lax drops spare bits, so there the same data has several: `Zg==` and `Zh==` are both 66 hex.
 pub record CanonicalEncoding : Type 0 where
   pub standard : Canonical Standard
   pub strict : Canonical Strict
