@@ -23,7 +23,8 @@ pub enum Refusal {
     LabelsDiffer { place: Place },
     /// 8: the characters and the pads before the place, the closing boundary, are no whole number of bytes.
     CountsDoNotFit { place: Place },
-    /// 9: the last character, at the place, has spare bits that are not zero; standard and strict refuse them.
+    /// 9: the last character, at the place, has spare bits, which belong to no byte, that are not zero; standard and strict
+    /// refuse them.
     SpareBits { place: Place },
     /// 10, of the read call: the lent output is too small; the data need `needed` bytes.
     OutputTooSmall { needed: usize },

@@ -1,10 +1,9 @@
 -- Where spare bits must be zero, the encoding is canonical. Assumes nothing.
 use mathlib.Core.Path.{_≡_, sym, ap}
-use mathlib.Core.List.{head-eq-of-cons-eq}
 use Prim.Native.Nat.{ℕ}
 use native.Mathlib.Omega.{arith}
 use lib.ListN.{getD}
-use Rattle.base64.specs.Alphabet.{alphabet, placeIn, valueOf, charOf}
+use Rattle.base64.specs.Alphabet.{alphabet, placeIn, valueOf}
 use Rattle.base64.specs.Groups.{encode}
 use Rattle.base64.proofs.Groups.{encode-decode}
 use Rattle.grammar.specs.Message.{Reading, Consistent, dataOf, characters, padCount}
