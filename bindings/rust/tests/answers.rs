@@ -221,6 +221,24 @@ fn the_second_pad_may_stand_on_the_next_line() {
 }
 
 #[test]
+fn spare_bits_are_dropped_by_lax_alone() {
+    let bodies: [(&str, &[u8]); 4] = [("Zh==", b"f"), ("Zh\n=\n=", b"f"), ("Zm9=", b"fo"), ("Zm9\r\n=", b"fo")];
+    for (body, data) in bodies {
+        let text = M.replace("Zg==", body);
+        let mut out = [0; 2];
+        assert_eq!(
+            zullifern::read(text.as_bytes(), Grammar::Lax, &mut out).unwrap().data,
+            data
+        );
+        let refusal = Refusal::SpareBits {
+            place: place(18 + data.len(), 2, 1 + data.len(), false),
+        };
+        assert_eq!(read_refusal(&text, Grammar::Standard), refusal);
+        assert_eq!(index_refusal(&text, Grammar::Standard), refusal);
+    }
+}
+
+#[test]
 fn grammars_have_numbers_and_names() {
     for grammar in Grammar::ALL {
         assert_eq!(Grammar::try_from(grammar.number()), Ok(grammar));
