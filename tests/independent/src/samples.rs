@@ -11,9 +11,24 @@ pub fn m_with(body: &[u8]) -> Vec<u8> {
     [b"-----BEGIN A-----".as_slice(), body, b"-----END A-----\n"].concat()
 }
 
+/// The data of M, and with a byte or two more.
+const F: Sample = Ok(b"\x66");
+const FO: Sample = Ok(b"\x66\x6f");
+const FOO: Sample = Ok(b"\x66\x6f\x6f");
+
+/// A body that fails at the place.
+const fn body_fails(place: usize) -> Sample {
+    Err((4, place))
+}
+
+/// M with these bodies, and what lax, standard and strict answer.
+fn with_bodies(bodies: &[(&[u8], [Sample; 3])]) -> Vec<(Vec<u8>, [Sample; 3])> {
+    bodies.iter().map(|&(body, samples)| (m_with(body), samples)).collect()
+}
+
 /// The rows of the table, in its order: the text, then lax, standard and strict.
 pub fn rows() -> Vec<(Vec<u8>, [Sample; 3])> {
-    let f: Sample = Ok(b"\x66");
+    let f = F;
     let none: Sample = Ok(b"");
     vec![
         (M.to_vec(), [f; 3]),
@@ -39,11 +54,11 @@ pub fn rows() -> Vec<(Vec<u8>, [Sample; 3])> {
 
 /// M with pads on two lines, after change request K9; the last two have one pad, or too many.
 pub fn split_pads() -> Vec<(Vec<u8>, [Sample; 3])> {
-    let f: Sample = Ok(b"\x66");
-    let fo: Sample = Ok(b"\x66\x6f");
-    let no = |place: usize| -> Sample { Err((4, place)) };
-    let accepted: [&[u8]; 3] = [b"\nZg=\r\n=\n", b"\nZg=\r=\n", b"\nZg=\t \r\n=\t\n"];
-    let others: [(&[u8], [Sample; 3]); 13] = [
+    let (f, fo, no) = (F, FO, body_fails);
+    with_bodies(&[
+        (b"\nZg=\r\n=\n", [f, f, no(21)]),
+        (b"\nZg=\r=\n", [f, f, no(21)]),
+        (b"\nZg=\t \r\n=\t\n", [f, f, no(21)]),
         (b"\nZg\n=\n=\n", [f, f, no(20)]),
         (b"\nZg=\n =\n", [f, no(22), no(21)]),
         (b"\nZg=\n\n=\n", [f, no(22), no(21)]),
@@ -57,20 +72,14 @@ pub fn split_pads() -> Vec<(Vec<u8>, [Sample; 3])> {
         (b"\nZg=\nZg==\n", [no(22), no(22), no(21)]),
         (b"\nZm8=\n", [fo; 3]),
         (b"\nZm8=\n=\n", [Err((8, 25)), Err((8, 25)), no(23)]),
-    ];
-    let accepted = accepted.iter().map(|body| (m_with(body), [f, f, no(21)]));
-    let others = others.iter().map(|&(body, samples)| (m_with(body), samples));
-    accepted.chain(others).collect()
+    ])
 }
 
 /// M with spare bits that are not zero, after change request K8; the last two have none, or counts that do not fit.
 pub fn spare_bits() -> Vec<(Vec<u8>, [Sample; 3])> {
-    let f: Sample = Ok(b"\x66");
-    let fo: Sample = Ok(b"\x66\x6f");
-    let foo: Sample = Ok(b"\x66\x6f\x6f");
+    let (f, fo, foo, no) = (F, FO, FOO, body_fails);
     let spare = |place: usize| -> Sample { Err((9, place)) };
-    let no = |place: usize| -> Sample { Err((4, place)) };
-    let rows: [(&[u8], [Sample; 3]); 10] = [
+    with_bodies(&[
         (b"\nZo==\n", [f, spare(19), spare(19)]),
         (b"\nZm9=\n", [fo, spare(20), spare(20)]),
         (b"\nZm+=\n", [fo, spare(20), spare(20)]),
@@ -81,6 +90,5 @@ pub fn spare_bits() -> Vec<(Vec<u8>, [Sample; 3])> {
         (b"\nZ\nh\n=\n=\n", [f, spare(20), no(19)]),
         (b"\nZm9v\n", [foo; 3]),
         (b"\nZh=\n", [Err((8, 22)), Err((8, 22)), no(21)]),
-    ];
-    rows.iter().map(|&(body, samples)| (m_with(body), samples)).collect()
+    ])
 }
