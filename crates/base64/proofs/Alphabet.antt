@@ -2,14 +2,14 @@
 use mathlib.Core.Path.{_≡_, refl, sym, ap, _∙_}
 use mathlib.Core.Bool.{Bool, true, false, cond}
 use mathlib.Core.List.{List, [], _∷_}
-use Prim.Native.Nat.{ℕ, suc, _+_, _-_, _≤_, _<_}
+use Prim.Native.Nat.{ℕ, suc, _≤_, _<_}
 use native.Mathlib.Omega.{arith}
-use lib.Dec.{T, eqb, ltb, eqb→eq}
+use lib.Dec.{eqb, ltb, eqb→eq}
 use lib.ListN.{length, getD}
-use borrow.Author.Tests.{eqb-true, ltb-true, ltb-false, lt-ltb}
+use borrow.Author.Tests.{eqb-true, ltb-true, ltb-false}
 use Rattle.base64.specs.Alphabet.{radix, Sextet, AlphabetChar, alphabet, charOf, placeIn, valueOf, pad, answerOf}
 use Rattle.base64.specs.declared.Value.the-variants.{Of, Outside}
-use Rattle.base64.proofs.Tests.{run, below-at, run-at}
+use Rattle.base64.proofs.Tests.{below-at}
 
 -- What stands at the place of c is c.
 place-found : (xs : List ℕ) (c : ℕ) → placeIn xs c < length xs → getD xs (placeIn xs c) 0 ≡ c
@@ -40,25 +40,6 @@ pub pad-outside : valueOf pad ≡ 64
 unfolding valueOf placeIn alphabet
 pad-outside = refl
 
--- The values of a run of bytes that stand in the alphabet one after the other, first for the value v, and of bytes outside.
-abbrev rising : ℕ → ℕ → ℕ → Bool
-rising first v c = eqb (valueOf c) (c - first + v)
-
-abbrev outside : ℕ → Bool
-outside c = eqb (valueOf c) 64
-
--- So answers the code: a byte of such a run, a byte outside.
-pub answer-rising : (first n v : ℕ) → T (run (rising first v) first n) → (c x : ℕ)
-    → (first ≤ c) × (c < first + n) × (x ≡ c - first + v) × Sextet x → Of x ≡ answerOf c
-answer-rising first n v t c x h =
-    let e : valueOf c ≡ x = eqb→eq _ _ (run-at (rising first v) first n t c (h .0) (h .1)) ∙ sym (h .2) in
-    rw (answerOf, e, lt-ltb x 64 (h .3))
-
-pub answer-outside : (first n : ℕ) → T (run outside first n) → (c : ℕ) → (first ≤ c) × (c < first + n) → Outside ≡ answerOf c
-answer-outside first n t c h =
-    let e : valueOf c ≡ 64 = eqb→eq _ _ (run-at outside first n t c (h .0) (h .1)) in
-    rw (answerOf, e)
-
 -- The place is at most the length.
 place-within : (xs : List ℕ) (c : ℕ) → placeIn xs c ≤ length xs
 unfolding placeIn
@@ -68,6 +49,11 @@ place-within (x ∷ xs) c = go (eqb x c) (place-within xs c)
     go : (here : Bool) → placeIn xs c ≤ length xs → cond here 0 (suc (placeIn xs c)) ≤ length (x ∷ xs)
     go true h = omega arith
     go false h = omega arith
+
+-- A byte outside the alphabet has the radix for its value.
+pub value-outside : (c : ℕ) → ltb (valueOf c) radix ≡ false → valueOf c ≡ radix
+unfolding valueOf alphabet
+value-outside c h = omega (arith, ltb-false (valueOf c) radix h, place-within alphabet c)
 
 -- What an answer of the code tells of the byte.
 pub answer-value : (c v : ℕ) → answerOf c ≡ Of v → Sextet v × (valueOf c ≡ v)
@@ -82,11 +68,10 @@ answer-value c v e = go (ltb (valueOf c) radix) refl e
         absurd (omega arith)
 
 pub answer-none : (c : ℕ) → answerOf c ≡ Outside → valueOf c ≡ radix
-unfolding valueOf alphabet
 answer-none c e = go (ltb (valueOf c) radix) refl e
   where
     go : (t : Bool) → ltb (valueOf c) radix ≡ t → cond t (Of (valueOf c)) Outside ≡ Outside → valueOf c ≡ radix
     go true h k =
         let z : _≡_ {A = ℕ} 0 1 = cc in
         absurd (omega arith)
-    go false h k = omega (arith, ltb-false (valueOf c) radix h, place-within alphabet c)
+    go false h k = value-outside c h

@@ -2,4 +2,5 @@
 pub mod Tests
 pub mod Lists
 pub mod Alphabet
+pub mod Values
 pub mod Groups

@@ -3,7 +3,9 @@
 ghost use mathlib.Core.Path.{_≡_};
 ghost use mathlib.Core.List.{[], _∷_};
 ghost use Prim.Native.Nat.{_*_, _/_};
-ghost use Rattle.base64.specs.Alphabet.{Sextet, alphabet, charOf, answerOf};
+ghost use lib.Dec.{ltb};
+ghost use Rattle.base64.specs.Alphabet.{radix, Sextet, alphabet, charOf, valueOf, answerOf};
+ghost use Rattle.base64.specs.Values.{DecodeTable};
 ghost use Rattle.base64.specs.Groups.{toBytes, toValues, spareBits, encode};
 
 // The pad behind a short group.
@@ -17,14 +19,27 @@ pub const GROUP_BYTES: usize = 3;
 // The characters for values 0 to 63.
 const ALPHABET: [u8; 64] = *b"ABCDEFGHIJKLMNOPQRSTUVWXYZabcdefghijklmnopqrstuvwxyz0123456789+/";
 
-// The values of `a`, `0`, `+` and `/`; that of `A` is 0.
-pub const LOWER_A: u8 = 26;
+// How many values there are.
+pub const RADIX: u8 = 64;
 
-pub const DIGIT_0: u8 = 52;
-
-pub const PLUS: u8 = 62;
-
-pub const SLASH: u8 = 63;
+// The value of each byte, sixteen bytes to a line; a byte outside the alphabet has the radix, `@`, which is no value.
+const DECODE_TABLE: [u8; 256] = *b"\
+    @@@@@@@@@@@@@@@@\
+    @@@@@@@@@@@@@@@@\
+    @@@@@@@@@@@\x3e@@@\x3f\
+    \x34\x35\x36\x37\x38\x39\x3a\x3b\x3c\x3d@@@@@@\
+    @\x00\x01\x02\x03\x04\x05\x06\x07\x08\x09\x0a\x0b\x0c\x0d\x0e\
+    \x0f\x10\x11\x12\x13\x14\x15\x16\x17\x18\x19@@@@@\
+    @\x1a\x1b\x1c\x1d\x1e\x1f\x20\x21\x22\x23\x24\x25\x26\x27\x28\
+    \x29\x2a\x2b\x2c\x2d\x2e\x2f\x30\x31\x32\x33@@@@@\
+    @@@@@@@@@@@@@@@@\
+    @@@@@@@@@@@@@@@@\
+    @@@@@@@@@@@@@@@@\
+    @@@@@@@@@@@@@@@@\
+    @@@@@@@@@@@@@@@@\
+    @@@@@@@@@@@@@@@@\
+    @@@@@@@@@@@@@@@@\
+    @@@@@@@@@@@@@@@@";
 
 // What a byte stands for in base 64 text.
 pub enum Value {
@@ -65,36 +80,37 @@ pub fn char_of(table: &[u8; 64], value: u8) -> u8
     table[value as usize]
 }
 
+// The value of each byte as a table, bound and lent in the same way.
+pub fn decode_table() -> [u8; 256]
+    ensures { λ r. ⌜ DecodeTable r ⌝ }
+{
+    DECODE_TABLE
+}
+
+// The value of a byte, or the radix where it is outside the alphabet. No other function reads the decode table.
+fn entry_of(values: &[u8; 256], c: u8) -> u8
+    requires { ⌜ DecodeTable (now values) ⌝ }
+    ensures { λ r. ⌜ r ≡ valueOf c ⌝ }
+{
+    values[c as usize]
+}
+
+// Whether a byte is a character of the alphabet.
+pub fn is_character(values: &[u8; 256], c: u8) -> bool
+    requires { ⌜ DecodeTable (now values) ⌝ }
+    ensures { λ r. ⌜ r ≡ ltb (valueOf c) radix ⌝ }
+{
+    entry_of(values, c) < RADIX
+}
+
 // What a byte stands for.
-pub fn value_of(c: u8) -> Value
+pub fn value_of(values: &[u8; 256], c: u8) -> Value
+    requires { ⌜ DecodeTable (now values) ⌝ }
     ensures { λ r. ⌜ r ≡ answerOf c ⌝ }
 {
-    if c < b'+' {
-        return Value::Outside;
-    }
-    if c == b'+' {
-        return Value::Of(PLUS);
-    }
-    if c < b'/' {
-        return Value::Outside;
-    }
-    if c == b'/' {
-        return Value::Of(SLASH);
-    }
-    if c <= b'9' {
-        return Value::Of(c - b'0' + DIGIT_0);
-    }
-    if c < b'A' {
-        return Value::Outside;
-    }
-    if c <= b'Z' {
-        return Value::Of(c - b'A');
-    }
-    if c < b'a' {
-        return Value::Outside;
-    }
-    if c <= b'z' {
-        return Value::Of(c - b'a' + LOWER_A);
+    let value = entry_of(values, c);
+    if value < RADIX {
+        return Value::Of(value);
     }
     Value::Outside
 }

@@ -1,11 +1,10 @@
 // Runs base64 on the test vectors of RFC 4648, section 10, in both directions, on every byte, and on the 256 bytes in order.
 ghost use mathlib.Core.Path.{_≡_};
 ghost use Rattle.base64.specs.Alphabet.{alphabet};
+ghost use Rattle.base64.specs.Values.{DecodeTable};
+use base64::RADIX;
 use base64::Value;
 use libc::STDOUT_FILENO;
-
-// What `value` answers for a byte outside the alphabet.
-const OUTSIDE: u8 = 64;
 
 fn put(c: u8) {
     let text = [c];
@@ -26,7 +25,7 @@ fn put_spare(spare: u8) {
 fn put_char(table: &[u8; 64], value: u8)
     requires { ⌜ now table ≡ alphabet ⌝ }
 {
-    if value < OUTSIDE {
+    if value < RADIX {
         put(base64::char_of(table, value));
     }
 }
@@ -53,10 +52,13 @@ fn encode(table: &[u8; 64], bytes: &[u8])
     end_line();
 }
 
-fn value(c: u8) -> u8 {
-    match base64::value_of(c) {
+// The value of a byte, or the radix for one outside the alphabet.
+fn value(values: &[u8; 256], c: u8) -> u8
+    requires { ⌜ DecodeTable (now values) ⌝ }
+{
+    match base64::value_of(values, c) {
         Value::Of(v) => v,
-        Value::Outside => OUTSIDE,
+        Value::Outside => RADIX,
     }
 }
 
@@ -110,34 +112,40 @@ fn decode_four(a: u8, b: u8, c: u8, d: u8) {
 }
 
 // The bytes of the characters, with the spare bits behind a short group, and a line end.
-fn decode(text: &[u8]) {
+fn decode(values: &[u8; 256], text: &[u8])
+    requires { ⌜ DecodeTable (now values) ⌝ }
+{
     let mut i = 0;
     while 3 < text.len() - i {
         decode_four(
-            value(text[i]),
-            value(text[i + 1]),
-            value(text[i + 2]),
-            value(text[i + 3]),
+            value(values, text[i]),
+            value(values, text[i + 1]),
+            value(values, text[i + 2]),
+            value(values, text[i + 3]),
         );
         i += 4;
     }
     if text.len() - i == 3 {
-        decode_three(value(text[i]), value(text[i + 1]), value(text[i + 2]));
+        decode_three(
+            value(values, text[i]),
+            value(values, text[i + 1]),
+            value(values, text[i + 2]),
+        );
     }
     if text.len() - i == 2 {
-        decode_two(value(text[i]), value(text[i + 1]));
+        decode_two(value(values, text[i]), value(values, text[i + 1]));
     }
     end_line();
 }
 
 // The character of each byte's value, in the order of the bytes; then how many bytes are outside.
-fn every_byte(table: &[u8; 64])
-    requires { ⌜ now table ≡ alphabet ⌝ }
+fn every_byte(table: &[u8; 64], values: &[u8; 256])
+    requires { ⌜ (now table ≡ alphabet) × DecodeTable (now values) ⌝ }
 {
     let mut outside: u64 = 0;
     for c in 0u8..=255 {
-        let v = value(c);
-        if v < OUTSIDE {
+        let v = value(values, c);
+        if v < RADIX {
             put_char(table, v);
         } else {
             outside += 1;
@@ -148,7 +156,7 @@ fn every_byte(table: &[u8; 64])
     end_line();
 }
 
-fn vectors(table: &[u8; 64])
+fn encode_vectors(table: &[u8; 64])
     requires { ⌜ now table ≡ alphabet ⌝ }
 {
     encode(table, b"");
@@ -158,15 +166,20 @@ fn vectors(table: &[u8; 64])
     encode(table, b"foob");
     encode(table, b"fooba");
     encode(table, b"foobar");
-    decode(b"Zg");
-    decode(b"Zm8");
-    decode(b"Zm9v");
-    decode(b"Zm9vYg");
-    decode(b"Zm9vYmE");
-    decode(b"Zm9vYmFy");
+}
+
+fn decode_vectors(values: &[u8; 256])
+    requires { ⌜ DecodeTable (now values) ⌝ }
+{
+    decode(values, b"Zg");
+    decode(values, b"Zm8");
+    decode(values, b"Zm9v");
+    decode(values, b"Zm9vYg");
+    decode(values, b"Zm9vYmE");
+    decode(values, b"Zm9vYmFy");
     // Spare bits that are not zero: 1 behind one byte, 3 behind two.
-    decode(b"Zh");
-    decode(b"Zm/");
+    decode(values, b"Zh");
+    decode(values, b"Zm/");
 }
 
 fn bytes_in_order() -> [u8; 256] {
@@ -181,8 +194,10 @@ fn main() {
     let table = base64::alphabet_table();
     io::write_all(STDOUT_FILENO, &table);
     end_line();
-    every_byte(&table);
-    vectors(&table);
+    let values = base64::decode_table();
+    every_byte(&table, &values);
+    encode_vectors(&table);
+    decode_vectors(&values);
     let bytes = bytes_in_order();
     encode(&table, &bytes);
 }

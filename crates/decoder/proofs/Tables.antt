@@ -36,14 +36,6 @@ entry p c = go (ltb (valueOf c) radix) refl
     go true e = inside (ltb-true (valueOf c) radix e) (rw e)
     go false e = outside e (rw e)
 
--- A byte whose entry is the mark is no character.
-pub mark-outside : (c : ℕ) → mark ≤ marked 0 c → NoCharacter c
-mark-outside c m = go (entry 0 c)
-  where
-    go : Entry 0 c → NoCharacter c
-    go (inside k l) = absurd (omega (arith, l, k))
-    go (outside k l) = k
-
 placed-bound : (p v : ℕ) → v < 64 → placed p v ≤ mark
 placed-bound zero v h = omega arith
 placed-bound (suc zero) v h = omega arith

@@ -6,9 +6,10 @@ ghost use mathlib.Core.List.{_++_};
 ghost use Prim.Native.Nat.{_+_, _-_, _*_, _/_, _%_, _≤_, _<_};
 ghost use lib.ListN.{length, replicate};
 ghost use Rattle.base64.specs.Alphabet.{Sextet};
+ghost use Rattle.base64.specs.Values.{DecodeTable};
 ghost use Rattle.base64.specs.Groups.{decode};
 ghost use Rattle.grammar.specs.Message.{characters};
-ghost use Rattle.runs.specs.Runs.{NoCharacter, Outside};
+ghost use Rattle.runs.specs.Runs.{Outside};
 ghost use Rattle.decoder.specs.Tables.{mark, marked, groupTable, groupAt};
 ghost use Rattle.decoder.specs.Feeding.{HoldsValue, fed, fedByte};
 ghost use Rattle.decoder.specs.Decoding.{Put, Decoding, Further, DecodedLines};
@@ -24,9 +25,7 @@ use runs::Lines;
 mod groups;
 
 // What the table has for a byte outside the alphabet: more than the numbers of sixteen groups together.
-const MARK: u32 = 268435456;
-
-const WIDE_MARK: u64 = 268435456;
+const MARK: u64 = 268435456;
 
 // Where the entries of a group's second, third and fourth character begin.
 const SECOND: usize = 256;
@@ -67,14 +66,6 @@ fn group_number(table: &[u32; 1024], text: &[u8], i: usize) -> u32
     let c = entry_in(table, THIRD, text[i + 2]);
     let d = entry_in(table, FOURTH, text[i + 3]);
     a + b + c + d
-}
-
-// Whether a byte is outside the alphabet.
-fn is_outside(table: &[u32; 1024], c: u8) -> bool
-    requires { ⌜ now table ≡ groupTable ⌝ }
-    ensures { λ r. ⌜ (r ≡ true → NoCharacter c) ⌝ }
-{
-    MARK <= entry_in(table, 0, c)
 }
 
 // The same number in more bits.
@@ -121,13 +112,13 @@ fn put_sixteen_groups(table: &[u32; 1024], text: &[u8], i: usize, out: &mut [u8]
 }
 
 // The first alphabet character from a place on.
-pub fn skip_outside(table: &[u32; 1024], text: &[u8], from: usize) -> usize
-    requires { ⌜ (now table ≡ groupTable) × (from ≤ length (now text)) ⌝ }
+pub fn skip_outside(values: &[u8; 256], text: &[u8], from: usize) -> usize
+    requires { ⌜ DecodeTable (now values) × (from ≤ length (now text)) ⌝ }
     ensures { λ r. ⌜ (from ≤ r) × (r ≤ length (now (text .entry))) × Outside (now (text .entry)) from r ⌝ }
 {
     let mut i = from;
     while i < text.len() {
-        if !is_outside(table, text[i]) {
+        if base64::is_character(values, text[i]) {
             return i;
         }
         i += 1;
@@ -148,7 +139,7 @@ fn run_of_fours(table: &[u32; 1024], text: &[u8], from: usize, out: &mut [u8], t
         if out.len() - at <= FOUR_BYTES {
             return groups;
         }
-        if WIDE_MARK <= put_four_groups(table, text, i, out, at) {
+        if MARK <= put_four_groups(table, text, i, out, at) {
             return groups;
         }
         i += FOUR_CHARS;
@@ -170,7 +161,7 @@ fn run_of_ones(table: &[u32; 1024], text: &[u8], from: usize, out: &mut [u8], to
         if out.len() - at <= GROUP_BYTES {
             return groups;
         }
-        if WIDE_MARK <= put_group(table, text, i, out, at) {
+        if MARK <= put_group(table, text, i, out, at) {
             return groups;
         }
         i += GROUP_CHARS;
@@ -207,7 +198,7 @@ pub fn put_full_lines(table: &[u32; 1024], text: &[u8], from: usize, out: &mut [
         if width == 0 {
             return Lines { end, groups, last };
         }
-        if WIDE_MARK <= put_sixteen_groups(table, text, end, out, written) {
+        if MARK <= put_sixteen_groups(table, text, end, out, written) {
             return Lines { end, groups, last };
         }
         last = end + LINE_CHARS;
@@ -273,11 +264,11 @@ fn feed(group: Open, value: u8) -> Fed
 }
 
 // The next byte of a body. One that is no character of the alphabet changes nothing.
-fn feed_byte(group: Open, c: u8) -> Fed
-    requires { ⌜ HoldsValue group ⌝ }
+fn feed_byte(values: &[u8; 256], group: Open, c: u8) -> Fed
+    requires { ⌜ DecodeTable (now values) × HoldsValue group ⌝ }
     ensures { λ r. ⌜ r ≡ fedByte group c ⌝ }
 {
-    match base64::value_of(c) {
+    match base64::value_of(values, c) {
         Value::Of(value) => feed(group, value),
         Value::Outside => Fed::Held(group),
     }
@@ -290,11 +281,18 @@ struct Partial {
 }
 
 // Decodes the next byte of a body.
-fn put_byte(body: &[u8], i: usize, out: &mut [u8], group: Open, written: usize) -> Partial
-    requires { ⌜ (i < length (now body)) × Decoding (now body) (now out) group written i ⌝ }
+fn put_byte(
+    values: &[u8; 256],
+    body: &[u8],
+    i: usize,
+    out: &mut [u8],
+    group: Open,
+    written: usize,
+) -> Partial
+    requires { ⌜ DecodeTable (now values) × (i < length (now body)) × Decoding (now body) (now out) group written i ⌝ }
     ensures { λ r. ⌜ (length (now (out .exit)) ≡ length (now (out .entry))) × Decoding (now (body .entry)) (now (out .exit)) (r .group) (r .written) (i + 1) ⌝ }
 {
-    match feed_byte(group, body[i]) {
+    match feed_byte(values, group, body[i]) {
         Fed::Held(next) => Partial {
             group: next,
             written,
@@ -316,11 +314,18 @@ struct Progress {
 }
 
 // Decodes the groups that stand side by side behind bytes outside the alphabet.
-fn put_blocks(table: &[u32; 1024], body: &[u8], from: usize, out: &mut [u8], to: usize) -> Progress
-    requires { ⌜ (now table ≡ groupTable) × (from ≤ length (now body)) × Decoding (now body) (now out) Start to from ⌝ }
+fn put_blocks(
+    values: &[u8; 256],
+    table: &[u32; 1024],
+    body: &[u8],
+    from: usize,
+    out: &mut [u8],
+    to: usize,
+) -> Progress
+    requires { ⌜ DecodeTable (now values) × (now table ≡ groupTable) × (from ≤ length (now body)) × Decoding (now body) (now out) Start to from ⌝ }
     ensures { λ r. ⌜ (to ≤ r .written) × Further (now (body .entry)) (now (out .entry)) (now (out .exit)) from (r .written) (r .read) ⌝ }
 {
-    let start = skip_outside(table, body, from);
+    let start = skip_outside(values, body, from);
     let groups = put_run(table, body, start, out, to);
     Progress {
         read: start + 4 * groups,
@@ -329,21 +334,28 @@ fn put_blocks(table: &[u32; 1024], body: &[u8], from: usize, out: &mut [u8], to:
 }
 
 // Writes the data of a body of which a part was decoded before, and zeros behind it: of what stood there nothing is left.
-pub fn put_data(table: &[u32; 1024], body: &[u8], from: usize, out: &mut [u8], to: usize)
-    requires { ⌜ (now table ≡ groupTable) × (from ≤ length (now body)) × Decoding (now body) (now out) Start to from ⌝ }
+pub fn put_data(
+    values: &[u8; 256],
+    table: &[u32; 1024],
+    body: &[u8],
+    from: usize,
+    out: &mut [u8],
+    to: usize,
+)
+    requires { ⌜ DecodeTable (now values) × (now table ≡ groupTable) × (from ≤ length (now body)) × Decoding (now body) (now out) Start to from ⌝ }
     ensures { λ _. ⌜ now (out .exit) ≡ decode (characters (now (body .entry))) ++ replicate (length (now (out .entry)) - length (decode (characters (now (body .entry))))) 0 ⌝ }
 {
-    let first = put_blocks(table, body, from, out, to);
+    let first = put_blocks(values, table, body, from, out, to);
     let mut group = Open::Start;
     let mut written = first.written;
     let mut i = first.read;
     while i < body.len() {
-        let step = put_byte(body, i, out, group, written);
+        let step = put_byte(values, body, i, out, group, written);
         group = step.group;
         match group {
             Open::Start => {
                 let before = step.written;
-                let blocks = put_blocks(table, body, i + 1, out, before);
+                let blocks = put_blocks(values, table, body, i + 1, out, before);
                 i = blocks.read;
                 written = blocks.written;
             }

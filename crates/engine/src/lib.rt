@@ -1,11 +1,10 @@
 // The machine's code, but for its tables: each function equals its definition in the crate `machine`.
 ghost use mathlib.Core.Path.{_≡_};
 ghost use lib.ListN.{length, getD};
+ghost use Rattle.base64.specs.Values.{DecodeTable};
 ghost use Rattle.machine.proofs.ByteKinds.{kindOf, otherKind};
 ghost use Rattle.machine.proofs.Machine.{wordOf, wordStep, labelTarget, labelStep, target, behind, labelled, beforeStep, next, step, start, later, accepting, strictAccepting, isAfter, dead, bytePart, boundaryPart, laxPart, standardPart, strictPart, partOf};
 use base64::PAD;
-use base64::Value;
-use base64::value_of;
 use grammar::BEGIN;
 use grammar::CR;
 use grammar::END;
@@ -32,26 +31,25 @@ use machine::State;
 use machine::StrictPhase;
 
 // The kind of a byte that is no blank, line end, VT, FF, hyphen or pad.
-fn other_kind(b: u8) -> Kind
+fn other_kind(values: &[u8; 256], b: u8) -> Kind
+    requires { ⌜ DecodeTable (now values) ⌝ }
     ensures { λ r. ⌜ r ≡ otherKind b ⌝ }
 {
-    let value = value_of(b);
-    match value {
-        Value::Of(_) => Kind::Alphabet,
-        Value::Outside => {
-            if b < FIRST_MARK {
-                return Kind::Other;
-            }
-            if LAST_MARK < b {
-                return Kind::Other;
-            }
-            Kind::Mark
-        }
+    if base64::is_character(values, b) {
+        return Kind::Alphabet;
     }
+    if b < FIRST_MARK {
+        return Kind::Other;
+    }
+    if LAST_MARK < b {
+        return Kind::Other;
+    }
+    Kind::Mark
 }
 
 // The kind of a byte.
-pub fn kind_of(b: u8) -> Kind
+pub fn kind_of(values: &[u8; 256], b: u8) -> Kind
+    requires { ⌜ DecodeTable (now values) ⌝ }
     ensures { λ r. ⌜ r ≡ kindOf b ⌝ }
 {
     match b {
@@ -63,7 +61,7 @@ pub fn kind_of(b: u8) -> Kind
         SP => Kind::Space,
         HYPHEN => Kind::Hyphen,
         PAD => Kind::Pad,
-        _ => other_kind(b),
+        _ => other_kind(values, b),
     }
 }
 
@@ -135,10 +133,11 @@ fn label_target(row: LabelRow, kind: Kind) -> LabelTarget
 }
 
 // Where a byte takes a label. The writer's test of a label goes by it too.
-pub fn label_step(phase: LabelPhase, b: u8) -> LabelTarget
+pub fn label_step(values: &[u8; 256], phase: LabelPhase, b: u8) -> LabelTarget
+    requires { ⌜ DecodeTable (now values) ⌝ }
     ensures { λ r. ⌜ r ≡ labelStep phase b ⌝ }
 {
-    label_target(transitions::label_row(phase), kind_of(b))
+    label_target(transitions::label_row(phase), kind_of(values, b))
 }
 
 // The phase right behind a boundary.
@@ -207,16 +206,24 @@ fn before_step(kind: Kind) -> Phase
 }
 
 // The phase behind the next byte.
-fn next_phase(grammar: Grammar, phase: Phase, b: u8) -> Phase
+fn next_phase(values: &[u8; 256], grammar: Grammar, phase: Phase, b: u8) -> Phase
+    requires { ⌜ DecodeTable (now values) ⌝ }
     ensures { λ r. ⌜ r ≡ next grammar phase b ⌝ }
 {
     match phase {
-        Phase::Before => before_step(kind_of(b)),
+        Phase::Before => before_step(kind_of(values, b)),
         Phase::Word(boundary, read) => word_step(boundary, read, b),
-        Phase::Label(boundary, label) => label_phase(grammar, boundary, label_step(label, b)),
-        Phase::Lax(lax) => row_target(transitions::lax_row(lax), kind_of(b)),
-        Phase::Standard(standard) => row_target(transitions::standard_row(standard), kind_of(b)),
-        Phase::Strict(strict) => row_target(transitions::strict_row(strict), kind_of(b)),
+        Phase::Label(boundary, label) => label_phase(
+            grammar,
+            boundary,
+            label_step(values, label, b),
+        ),
+        Phase::Lax(lax) => row_target(transitions::lax_row(lax), kind_of(values, b)),
+        Phase::Standard(standard) => row_target(
+            transitions::standard_row(standard),
+            kind_of(values, b),
+        ),
+        Phase::Strict(strict) => row_target(transitions::strict_row(strict), kind_of(values, b)),
         Phase::Dead => Phase::Dead,
     }
 }
@@ -252,7 +259,8 @@ pub fn later() -> State
 }
 
 // The machine behind the next byte. LF behind CR is of the same line end and moves nothing.
-pub fn step(state: State, grammar: Grammar, b: u8) -> State
+pub fn step(values: &[u8; 256], state: State, grammar: Grammar, b: u8) -> State
+    requires { ⌜ DecodeTable (now values) ⌝ }
     ensures { λ r. ⌜ r ≡ step grammar state b ⌝ }
 {
     let phase = state.phase;
@@ -262,7 +270,7 @@ pub fn step(state: State, grammar: Grammar, b: u8) -> State
         }
     }
     State {
-        phase: next_phase(grammar, phase, b),
+        phase: next_phase(values, grammar, phase, b),
         cr: b == CR,
     }
 }

@@ -3,6 +3,7 @@
 ghost use mathlib.Core.Path.{_≡_};
 ghost use Prim.Native.Nat.{_+_, _≤_, _<_, _^_};
 ghost use lib.ListN.{length, replicate};
+ghost use Rattle.base64.specs.Values.{DecodeTable};
 ghost use Rattle.grammar.specs.Grammars.{grammarOf};
 ghost use Rattle.grammar.specs.declared.Numbered.the-variants.{Known};
 ghost use Rattle.reading.specs.Limits.{textLimit};
@@ -81,14 +82,20 @@ fn entry_in(from: TextOffset, length: usize, layout: Layout, size: ByteCount) ->
 }
 
 // The checks 3 to 9 of the message that a scan has read.
-fn judge_message(text: &[u8], grammar: Grammar, from: TextOffset, scan: Scan) -> Judgement
-    requires { ⌜ ScanFrom grammar (now text) (from .0) scan ⌝ }
+fn judge_message(
+    values: &[u8; 256],
+    text: &[u8],
+    grammar: Grammar,
+    from: TextOffset,
+    scan: Scan,
+) -> Judgement
+    requires { ⌜ DecodeTable (now values) × ScanFrom grammar (now text) (from .0) scan ⌝ }
     ensures { λ r. ⌜ r ≡ judgedMessage grammar (now (text .entry)) (from .0) scan ⌝ }
 {
     let phase = scan.phase;
     let tally = scan.tally;
     if engine::is_accepting(phase) {
-        return reader::judge_parts(text, grammar, reader::lay_out(from, tally), tally);
+        return reader::judge_parts(values, text, grammar, reader::lay_out(from, tally), tally);
     }
     Judgement::Refused(reader::grammar_refusal(
         engine::part_of(phase),
@@ -98,8 +105,8 @@ fn judge_message(text: &[u8], grammar: Grammar, from: TextOffset, scan: Scan) ->
 
 // The checks 3 to 9 of a bundle's messages from the left. The numbers of those that passed are written where the table has
 // room for them.
-fn walk(text: &[u8], grammar: Grammar, table: &mut [u32]) -> Survey
-    requires { ⌜ (length (now text) ≤ textLimit) × (now table ≡ replicate (length (now table)) 0) ⌝ }
+fn walk(values: &[u8; 256], text: &[u8], grammar: Grammar, table: &mut [u32]) -> Survey
+    requires { ⌜ DecodeTable (now values) × (length (now text) ≤ textLimit) × (now table ≡ replicate (length (now table)) 0) ⌝ }
     ensures { λ r. ⌜ (r ≡ surveyed (walkOf grammar (now (text .entry)))) × Filled (walkOf grammar (now (text .entry))) (now (table .exit)) ⌝ }
 {
     let mut first = engine::start(grammar);
@@ -107,9 +114,9 @@ fn walk(text: &[u8], grammar: Grammar, table: &mut [u32]) -> Survey
     let mut count = 0;
     while at < text.len() {
         let from = TextOffset(at);
-        let scan = scanner::scan_text(text, from, grammar, first);
+        let scan = scanner::scan_text(values, text, from, grammar, first);
         let length = scan.length;
-        match judge_message(text, grammar, from, scan) {
+        match judge_message(values, text, grammar, from, scan) {
             Judgement::Sound(layout, size) => {
                 put_entry(table, count, entry_in(from, length, layout, size));
             }
@@ -132,7 +139,8 @@ fn survey_known(text: &[u8], grammar: Grammar, table: &mut [u32]) -> Survey
         return Survey::Refused(Refusal::TextTooLong);
     }
     clear(table);
-    walk(text, grammar, table)
+    let values = base64::decode_table();
+    walk(&values, text, grammar, table)
 }
 
 // The checks 1 to 9.

@@ -5,6 +5,7 @@ ghost use mathlib.Core.List.{_++_};
 ghost use Prim.Native.Nat.{_+_, _-_, _≤_, _<_};
 ghost use lib.ListN.{length, replicate};
 ghost use Rattle.base64.specs.Alphabet.{valueOf};
+ghost use Rattle.base64.specs.Values.{DecodeTable};
 ghost use Rattle.base64.specs.Groups.{decode};
 ghost use Rattle.grammar.specs.Message.{characters};
 ghost use Rattle.reading.specs.Data.{sameBytes, spareOf};
@@ -57,10 +58,11 @@ pub fn equal(a: &[u8], b: &[u8]) -> bool
 }
 
 // The spare bits of `count` characters, of which `last` is the last one. A byte outside the alphabet has none.
-fn spare_bits(count: usize, last: u8) -> u8
+fn spare_bits(values: &[u8; 256], count: usize, last: u8) -> u8
+    requires { ⌜ DecodeTable (now values) ⌝ }
     ensures { λ r. ⌜ r ≡ spareOf count (valueOf last) ⌝ }
 {
-    let Value::Of(value) = base64::value_of(last) else {
+    let Value::Of(value) = base64::value_of(values, last) else {
         return 0;
     };
     match count % 4 {
@@ -142,31 +144,43 @@ fn labels_agree(text: &[u8], layout: Layout) -> bool
 }
 
 // Whether the spare bits of a body are zero.
-fn spare_zero(text: &[u8], layout: Layout, tally: Tally) -> bool
-    requires { ⌜ lastAt layout tally < length (now text) ⌝ }
+fn spare_zero(values: &[u8; 256], text: &[u8], layout: Layout, tally: Tally) -> bool
+    requires { ⌜ DecodeTable (now values) × (lastAt layout tally < length (now text)) ⌝ }
     ensures { λ r. ⌜ r ≡ spareZero (now (text .entry)) layout tally ⌝ }
 {
     let body = layout.body;
     let start = body.at;
     let at = start.0 + tally.last;
-    spare_bits(tally.characters, text[at]) == 0
+    spare_bits(values, tally.characters, text[at]) == 0
 }
 
 // Whether they are as the grammar asks: zero under standard and strict.
-fn spare_clear(text: &[u8], grammar: Grammar, layout: Layout, tally: Tally) -> bool
-    requires { ⌜ lastAt layout tally < length (now text) ⌝ }
+fn spare_clear(
+    values: &[u8; 256],
+    text: &[u8],
+    grammar: Grammar,
+    layout: Layout,
+    tally: Tally,
+) -> bool
+    requires { ⌜ DecodeTable (now values) × (lastAt layout tally < length (now text)) ⌝ }
     ensures { λ r. ⌜ r ≡ spareClear grammar (now (text .entry)) layout tally ⌝ }
 {
     match grammar {
         Grammar::Lax => true,
-        Grammar::Standard => spare_zero(text, layout, tally),
-        Grammar::Strict => spare_zero(text, layout, tally),
+        Grammar::Standard => spare_zero(values, text, layout, tally),
+        Grammar::Strict => spare_zero(values, text, layout, tally),
     }
 }
 
 // The checks 6 to 9 of a message of the grammar.
-pub fn judge_parts(text: &[u8], grammar: Grammar, layout: Layout, tally: Tally) -> Judgement
-    requires { ⌜ Lies (length (now text)) layout × (lastAt layout tally < length (now text)) ⌝ }
+pub fn judge_parts(
+    values: &[u8; 256],
+    text: &[u8],
+    grammar: Grammar,
+    layout: Layout,
+    tally: Tally,
+) -> Judgement
+    requires { ⌜ DecodeTable (now values) × Lies (length (now text)) layout × (lastAt layout tally < length (now text)) ⌝ }
     ensures { λ r. ⌜ r ≡ judgedParts grammar (now (text .entry)) layout tally ⌝ }
 {
     let opened = layout.opened;
@@ -183,7 +197,7 @@ pub fn judge_parts(text: &[u8], grammar: Grammar, layout: Layout, tally: Tally) 
         let place = layout.closing;
         return Judgement::Refused(Refusal::BadCounts(place));
     }
-    if !spare_clear(text, grammar, layout, tally) {
+    if !spare_clear(values, text, grammar, layout, tally) {
         let body = layout.body;
         let start = body.at;
         let place = TextOffset(start.0 + tally.last);
@@ -193,15 +207,15 @@ pub fn judge_parts(text: &[u8], grammar: Grammar, layout: Layout, tally: Tally) 
 }
 
 // The checks 3 to 9 of a text that was scanned from its start.
-fn judge_scan(text: &[u8], grammar: Grammar, scan: Scan) -> Judgement
-    requires { ⌜ scan ≡ scanOf grammar (start grammar) 0 noTally (now text) ⌝ }
+fn judge_scan(values: &[u8; 256], text: &[u8], grammar: Grammar, scan: Scan) -> Judgement
+    requires { ⌜ DecodeTable (now values) × (scan ≡ scanOf grammar (start grammar) 0 noTally (now text)) ⌝ }
     ensures { λ r. ⌜ r ≡ judgedScan grammar (now (text .entry)) scan ⌝ }
 {
     let phase = scan.phase;
     let tally = scan.tally;
     if scan.length == text.len() {
         if engine::is_accepting(phase) {
-            return judge_parts(text, grammar, lay_out(TextOffset(0), tally), tally);
+            return judge_parts(values, text, grammar, lay_out(TextOffset(0), tally), tally);
         }
     }
     Judgement::Refused(grammar_refusal(engine::part_of(phase), TextOffset(scan.length)))
@@ -214,10 +228,18 @@ fn judge_known(text: &[u8], grammar: Grammar) -> Judgement
     if TEXT_LIMIT < text.len() {
         return Judgement::Refused(Refusal::TextTooLong);
     }
+    let values = base64::decode_table();
     judge_scan(
+        &values,
         text,
         grammar,
-        scanner::scan_text(text, TextOffset(0), grammar, engine::start(grammar)),
+        scanner::scan_text(
+            &values,
+            text,
+            TextOffset(0),
+            grammar,
+            engine::start(grammar),
+        ),
     )
 }
 
@@ -233,8 +255,15 @@ pub fn judge(text: &[u8], grammar: u32) -> Judgement
 
 // Writes the data of a body, and zeros behind it. The lines that the scan has decoded are not decoded again: those that the body
 // begins with, but for bytes outside the alphabet.
-fn put_body(table: &[u32; 1024], text: &[u8], body: Span, pass: DecodingScan, out: &mut [u8])
-    requires { ⌜ (now table ≡ groupTable) × (body .at .0 + body .length ≤ length (now text)) × (length (decode (characters (spanned (now text) body))) ≤ length (now out)) × (pass .from ≤ pass .to) × Decoded (between (now text) (pass .from) (pass .to)) (now out) (pass .written) ⌝ }
+fn put_body(
+    values: &[u8; 256],
+    table: &[u32; 1024],
+    text: &[u8],
+    body: Span,
+    pass: DecodingScan,
+    out: &mut [u8],
+)
+    requires { ⌜ DecodeTable (now values) × (now table ≡ groupTable) × (body .at .0 + body .length ≤ length (now text)) × (length (decode (characters (spanned (now text) body))) ≤ length (now out)) × (pass .from ≤ pass .to) × Decoded (between (now text) (pass .from) (pass .to)) (now out) (pass .written) ⌝ }
     ensures { λ _. ⌜ now (out .exit) ≡ decode (characters (spanned (now (text .entry)) body)) ++ replicate (length (now (out .entry)) - length (decode (characters (spanned (now (text .entry)) body)))) 0 ⌝ }
 {
     let start = body.at;
@@ -242,13 +271,13 @@ fn put_body(table: &[u32; 1024], text: &[u8], body: Span, pass: DecodingScan, ou
     let part = part_at(text, body);
     if begin <= pass.from {
         if pass.to - begin <= body.length {
-            if pass.from - begin <= decoder::skip_outside(table, part, 0) {
-                decoder::put_data(table, part, pass.to - begin, out, pass.written);
+            if pass.from - begin <= decoder::skip_outside(values, part, 0) {
+                decoder::put_data(values, table, part, pass.to - begin, out, pass.written);
                 return;
             }
         }
     }
-    decoder::put_data(table, part, 0, out, 0);
+    decoder::put_data(values, table, part, 0, out, 0);
 }
 
 // Reads a text that is to be one message of a grammar: the lines of its body are decoded while it is scanned, and cleared with
@@ -260,10 +289,11 @@ fn read_known(text: &[u8], grammar: Grammar, out: &mut [u8]) -> ReadAnswer
         output::clear(out);
         return ReadAnswer::Refused(Refusal::TextTooLong);
     }
+    let values = base64::decode_table();
     let table = decoder::group_table();
-    let pass = scanner::scan_decoding(&table, text, grammar, out);
+    let pass = scanner::scan_decoding(&values, &table, text, grammar, out);
     let scan = pass.scan;
-    match judge_scan(text, grammar, scan) {
+    match judge_scan(&values, text, grammar, scan) {
         Judgement::Sound(layout, size) => {
             let label = layout.opened;
             let body = layout.body;
@@ -271,7 +301,7 @@ fn read_known(text: &[u8], grammar: Grammar, out: &mut [u8]) -> ReadAnswer
                 output::clear(out);
                 return ReadAnswer::OutputTooSmall(Found { size, label });
             }
-            put_body(&table, text, body, pass, out);
+            put_body(&values, &table, text, body, pass, out);
             ReadAnswer::Accepted(Found { size, label })
         }
         Judgement::Refused(refusal) => {

@@ -5,6 +5,7 @@ ghost use mathlib.Core.Bool.{true};
 ghost use Prim.Native.Nat.{_+_, _≤_};
 ghost use lib.ListN.{length};
 ghost use Rattle.base64.specs.Alphabet.{AlphabetChar};
+ghost use Rattle.base64.specs.Values.{DecodeTable};
 ghost use Rattle.grammar.specs.Marks.{Blank};
 ghost use Rattle.runs.specs.Runs.{Characters, Blanks, Pads, LabelRun, LineEndAt, IsLine, LinesTo, Stands};
 use base64::PAD;
@@ -35,8 +36,8 @@ pub struct Lines {
     pub last: usize,
 }
 
-// 0 for a character of the alphabet, 1 for another byte. By plain comparisons and no table: a loop over them is made of vector
-// code.
+// 0 for a character of the alphabet, 1 for another byte. For whole blocks alone, and by plain comparisons where all else goes by
+// the decode table: a loop over them is made of vector code, and a loop over a table is not.
 fn outside(b: u8) -> u8
     ensures { λ r. ⌜ (r ≤ 1) × (r ≡ 0 → AlphabetChar b) ⌝ }
 {
@@ -80,9 +81,9 @@ fn all_characters(text: &[u8], at: usize, n: usize) -> bool
 }
 
 // How far a run of alphabet characters goes, up to the limit at the latest: by lines, by blocks, byte by byte. Each of the three may
-// stop early, and the next goes on.
-fn run_by_lines(text: &[u8], from: usize, limit: usize) -> usize
-    requires { ⌜ (from ≤ limit) × (limit ≤ length (now text)) ⌝ }
+// stop early, and the next goes on. A look at the next byte in the table spares a block that would fail at once.
+fn run_by_lines(values: &[u8; 256], text: &[u8], from: usize, limit: usize) -> usize
+    requires { ⌜ DecodeTable (now values) × (from ≤ limit) × (limit ≤ length (now text)) ⌝ }
     ensures { λ r. ⌜ (from ≤ r) × (r ≤ limit) × Characters (now (text .entry)) from r ⌝ }
 {
     let mut at = from;
@@ -92,7 +93,7 @@ fn run_by_lines(text: &[u8], from: usize, limit: usize) -> usize
         }
         at += LINE_CHARS;
         if at < limit {
-            if outside(text[at]) != 0 {
+            if !base64::is_character(values, text[at]) {
                 return at;
             }
         }
@@ -100,13 +101,13 @@ fn run_by_lines(text: &[u8], from: usize, limit: usize) -> usize
     at
 }
 
-fn run_by_blocks(text: &[u8], from: usize, limit: usize) -> usize
-    requires { ⌜ (from ≤ limit) × (limit ≤ length (now text)) ⌝ }
+fn run_by_blocks(values: &[u8; 256], text: &[u8], from: usize, limit: usize) -> usize
+    requires { ⌜ DecodeTable (now values) × (from ≤ limit) × (limit ≤ length (now text)) ⌝ }
     ensures { λ r. ⌜ (from ≤ r) × (r ≤ limit) × Characters (now (text .entry)) from r ⌝ }
 {
     let mut at = from;
     while BLOCK <= limit - at {
-        if outside(text[at]) != 0 {
+        if !base64::is_character(values, text[at]) {
             return at;
         }
         if !all_characters(text, at, BLOCK) {
@@ -117,13 +118,13 @@ fn run_by_blocks(text: &[u8], from: usize, limit: usize) -> usize
     at
 }
 
-fn run_by_bytes(text: &[u8], from: usize, limit: usize) -> usize
-    requires { ⌜ (from ≤ limit) × (limit ≤ length (now text)) ⌝ }
+fn run_by_bytes(values: &[u8; 256], text: &[u8], from: usize, limit: usize) -> usize
+    requires { ⌜ DecodeTable (now values) × (from ≤ limit) × (limit ≤ length (now text)) ⌝ }
     ensures { λ r. ⌜ (from ≤ r) × (r ≤ limit) × Characters (now (text .entry)) from r ⌝ }
 {
     let mut at = from;
     while at < limit {
-        if outside(text[at]) != 0 {
+        if !base64::is_character(values, text[at]) {
             return at;
         }
         at += 1;
@@ -132,21 +133,21 @@ fn run_by_bytes(text: &[u8], from: usize, limit: usize) -> usize
 }
 
 // The end of a run that is likely to be shorter than a full line.
-pub fn short_run_end(text: &[u8], from: usize, limit: usize) -> usize
-    requires { ⌜ (from ≤ limit) × (limit ≤ length (now text)) ⌝ }
+pub fn short_run_end(values: &[u8; 256], text: &[u8], from: usize, limit: usize) -> usize
+    requires { ⌜ DecodeTable (now values) × (from ≤ limit) × (limit ≤ length (now text)) ⌝ }
     ensures { λ r. ⌜ (from ≤ r) × (r ≤ limit) × Characters (now (text .entry)) from r ⌝ }
 {
-    let blocks = run_by_blocks(text, from, limit);
-    run_by_bytes(text, blocks, limit)
+    let blocks = run_by_blocks(values, text, from, limit);
+    run_by_bytes(values, text, blocks, limit)
 }
 
 // The end of a run of any length.
-fn run_end(text: &[u8], from: usize, limit: usize) -> usize
-    requires { ⌜ (from ≤ limit) × (limit ≤ length (now text)) ⌝ }
+fn run_end(values: &[u8; 256], text: &[u8], from: usize, limit: usize) -> usize
+    requires { ⌜ DecodeTable (now values) × (from ≤ limit) × (limit ≤ length (now text)) ⌝ }
     ensures { λ r. ⌜ (from ≤ r) × (r ≤ limit) × Characters (now (text .entry)) from r ⌝ }
 {
-    let lines = run_by_lines(text, from, limit);
-    short_run_end(text, lines, limit)
+    let lines = run_by_lines(values, text, from, limit);
+    short_run_end(values, text, lines, limit)
 }
 
 fn is_blank(b: u8) -> bool
@@ -219,11 +220,11 @@ pub fn pads_at(text: &[u8], at: usize) -> usize
 }
 
 // What stands at a place: a run of characters, blanks, a line end.
-pub fn line_at(text: &[u8], at: usize) -> Line
-    requires { ⌜ at ≤ length (now text) ⌝ }
+pub fn line_at(values: &[u8; 256], text: &[u8], at: usize) -> Line
+    requires { ⌜ DecodeTable (now values) × (at ≤ length (now text)) ⌝ }
     ensures { λ r. ⌜ IsLine (now (text .entry)) at (r .characters) (r .blanks) (r .end) ⌝ }
 {
-    let characters = run_end(text, at, text.len());
+    let characters = run_end(values, text, at, text.len());
     let blanks = blanks_end(text, characters);
     Line {
         characters,

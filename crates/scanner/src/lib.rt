@@ -6,6 +6,7 @@ ghost use mathlib.Core.Logic.{_≢_};
 ghost use mathlib.Core.Bool.{true, false};
 ghost use Prim.Native.Nat.{_+_, _-_, _*_, _≤_, _<_, _^_};
 ghost use lib.ListN.{length, drop, getD};
+ghost use Rattle.base64.specs.Values.{DecodeTable};
 ghost use Rattle.grammar.specs.declared.Grammar.{Grammar};
 ghost use Rattle.grammar.specs.Marks.{LF, hyphen};
 ghost use Rattle.machine.proofs.Machine.{state, wordOf, behind, next, start};
@@ -198,6 +199,7 @@ fn tally_line(tally: Tally, characters: usize, others: usize) -> Tally
 // Lines of any length, with blanks at their ends, and a run of characters behind them, in the phases in which they may stand. It
 // goes on behind blanks within a line where characters may follow them.
 fn advance_lines(
+    values: &[u8; 256],
     text: &[u8],
     from: usize,
     first: State,
@@ -207,14 +209,14 @@ fn advance_lines(
     trailing: Phase,
     resumes: bool,
 ) -> Position
-    requires { ⌜ Countable (now text) counted from ⌝ }
+    requires { ⌜ DecodeTable (now values) × Countable (now text) counted from ⌝ }
     ensures { λ r. ⌜ ((g : Grammar) → LinePhases g (first .phase) within behind trailing resumes → Advanced g (now (text .entry)) first counted from (r .state) (r .tally) (r .at)) ⌝ }
 {
     let mut at = from;
     let mut state = first;
     let mut tally = counted;
     while at < text.len() {
-        let line = runs::line_at(text, at);
+        let line = runs::line_at(values, text, at);
         let end = line.end;
         if line.characters == at {
             return Position { at, state, tally };
@@ -257,11 +259,17 @@ fn line_limit(from: usize, end: usize) -> usize
 }
 
 // A run of characters of one strict line.
-fn advance_in_line(text: &[u8], from: usize, first: State, counted: Tally) -> Position
-    requires { ⌜ Countable (now text) counted from ⌝ }
+fn advance_in_line(
+    values: &[u8; 256],
+    text: &[u8],
+    from: usize,
+    first: State,
+    counted: Tally,
+) -> Position
+    requires { ⌜ DecodeTable (now values) × Countable (now text) counted from ⌝ }
     ensures { λ r. ⌜ ((g : Grammar) → OnCharacter g (first .phase) (Strict (Data 63)) → Advanced g (now (text .entry)) first counted from (r .state) (r .tally) (r .at)) ⌝ }
 {
-    let end = runs::short_run_end(text, from, line_limit(from, text.len()));
+    let end = runs::short_run_end(values, text, from, line_limit(from, text.len()));
     if end == from {
         return Position {
             at: from,
@@ -324,6 +332,7 @@ fn decoded_behind(
 
 // Full lines of a grammar whose lines may have any length, and others behind them.
 fn advance_any_lines(
+    values: &[u8; 256],
     text: &[u8],
     from: usize,
     first: State,
@@ -333,19 +342,35 @@ fn advance_any_lines(
     trailing: Phase,
     resumes: bool,
 ) -> Position
-    requires { ⌜ Countable (now text) counted from ⌝ }
+    requires { ⌜ DecodeTable (now values) × Countable (now text) counted from ⌝ }
     ensures { λ r. ⌜ ((g : Grammar) → LinePhases g (first .phase) within behind trailing resumes → Advanced g (now (text .entry)) first counted from (r .state) (r .tally) (r .at)) ⌝ }
 {
     let lines = behind_lines(from, first, counted, behind, runs::full_lines(text, from));
     let at = lines.at;
     let state = lines.state;
     let tally = lines.tally;
-    advance_lines(text, at, state, tally, within, behind, trailing, resumes)
+    advance_lines(
+        values,
+        text,
+        at,
+        state,
+        tally,
+        within,
+        behind,
+        trailing,
+        resumes,
+    )
 }
 
 // Full lines of the strict grammar, and a run of characters of a further line behind them.
-fn advance_strict_lines(text: &[u8], from: usize, first: State, counted: Tally) -> Position
-    requires { ⌜ Countable (now text) counted from ⌝ }
+fn advance_strict_lines(
+    values: &[u8; 256],
+    text: &[u8],
+    from: usize,
+    first: State,
+    counted: Tally,
+) -> Position
+    requires { ⌜ DecodeTable (now values) × Countable (now text) counted from ⌝ }
     ensures { λ r. ⌜ ((g : Grammar) → OnCharacter g (first .phase) (Strict (Data 63)) → Advanced g (now (text .entry)) first counted from (r .state) (r .tally) (r .at)) ⌝ }
 {
     let line = Phase::Strict(StrictPhase::Line);
@@ -353,7 +378,7 @@ fn advance_strict_lines(text: &[u8], from: usize, first: State, counted: Tally) 
     let at = lines.at;
     let state = lines.state;
     let tally = lines.tally;
-    advance_in_line(text, at, state, tally)
+    advance_in_line(values, text, at, state, tally)
 }
 
 // The lines that begin in a phase, decoded as they are passed; none where no line of the body begins.
@@ -564,23 +589,23 @@ fn advance_closing(text: &[u8], at: usize, grammar: Grammar, state: State, tally
 }
 
 // Lines of the body, where one begins.
-fn advance_body(text: &[u8], at: usize, state: State, tally: Tally) -> Position
-    requires { ⌜ Countable (now text) tally at ⌝ }
+fn advance_body(values: &[u8; 256], text: &[u8], at: usize, state: State, tally: Tally) -> Position
+    requires { ⌜ DecodeTable (now values) × Countable (now text) tally at ⌝ }
     ensures { λ r. ⌜ ((g : Grammar) → Advanced g (now (text .entry)) state tally at (r .state) (r .tally) (r .at)) ⌝ }
 {
     let phase = state.phase;
     match leaps::body_line(phase) {
         BodyLine::Lax => {
             let data = Phase::Lax(LaxPhase::Data);
-            advance_any_lines(text, at, state, tally, data, data, data, true)
+            advance_any_lines(values, text, at, state, tally, data, data, data, true)
         }
         BodyLine::Standard => {
             let data = Phase::Standard(StandardPhase::Data);
             let line = Phase::Standard(StandardPhase::Line);
             let trailing = Phase::Standard(StandardPhase::Trailing);
-            advance_any_lines(text, at, state, tally, data, line, trailing, false)
+            advance_any_lines(values, text, at, state, tally, data, line, trailing, false)
         }
-        BodyLine::Strict => advance_strict_lines(text, at, state, tally),
+        BodyLine::Strict => advance_strict_lines(values, text, at, state, tally),
         BodyLine::Elsewhere => stay(text, at, state, tally),
     }
 }
@@ -608,8 +633,15 @@ fn advance_pads(text: &[u8], at: usize, state: State, tally: Tally) -> Position
 }
 
 // Behind the opening: the closing, pads, or lines of the body.
-fn advance_inside(text: &[u8], at: usize, grammar: Grammar, state: State, tally: Tally) -> Position
-    requires { ⌜ Countable (now text) tally at × (at < length (now text)) ⌝ }
+fn advance_inside(
+    values: &[u8; 256],
+    text: &[u8],
+    at: usize,
+    grammar: Grammar,
+    state: State,
+    tally: Tally,
+) -> Position
+    requires { ⌜ DecodeTable (now values) × Countable (now text) tally at × (at < length (now text)) ⌝ }
     ensures { λ r. ⌜ Advanced grammar (now (text .entry)) state tally at (r .state) (r .tally) (r .at) ⌝ }
 {
     if text[at] == HYPHEN {
@@ -618,12 +650,19 @@ fn advance_inside(text: &[u8], at: usize, grammar: Grammar, state: State, tally:
     if text[at] == PAD {
         return advance_pads(text, at, state, tally);
     }
-    advance_body(text, at, state, tally)
+    advance_body(values, text, at, state, tally)
 }
 
 // The run that stands at a place, if the phase has one.
-fn advance_run(text: &[u8], at: usize, grammar: Grammar, state: State, tally: Tally) -> Position
-    requires { ⌜ Countable (now text) tally at × (at < length (now text)) ⌝ }
+fn advance_run(
+    values: &[u8; 256],
+    text: &[u8],
+    at: usize,
+    grammar: Grammar,
+    state: State,
+    tally: Tally,
+) -> Position
+    requires { ⌜ DecodeTable (now values) × Countable (now text) tally at × (at < length (now text)) ⌝ }
     ensures { λ r. ⌜ Advanced grammar (now (text .entry)) state tally at (r .state) (r .tally) (r .at) ⌝ }
 {
     let phase = state.phase;
@@ -642,17 +681,24 @@ fn advance_run(text: &[u8], at: usize, grammar: Grammar, state: State, tally: Ta
             LabelPhase::Char => advance_label(text, at, grammar, state, tally, boundary),
             _ => stay(text, at, state, tally),
         },
-        _ => advance_inside(text, at, grammar, state, tally),
+        _ => advance_inside(values, text, at, grammar, state, tally),
     }
 }
 
 // The next byte, by the machine's step; none where the machine dies of it.
-fn advance_byte(text: &[u8], at: usize, grammar: Grammar, state: State, tally: Tally) -> Position
-    requires { ⌜ (at < length (now text)) × Within tally at ⌝ }
+fn advance_byte(
+    values: &[u8; 256],
+    text: &[u8],
+    at: usize,
+    grammar: Grammar,
+    state: State,
+    tally: Tally,
+) -> Position
+    requires { ⌜ DecodeTable (now values) × (at < length (now text)) × Within tally at ⌝ }
     ensures { λ r. ⌜ Advanced grammar (now (text .entry)) state tally at (r .state) (r .tally) (r .at) × (r .at ≡ at → Stopped grammar (now (text .entry)) state tally at) ⌝ }
 {
     let b = text[at];
-    let next = engine::step(state, grammar, b);
+    let next = engine::step(values, state, grammar, b);
     let before = state.phase;
     let after = next.phase;
     if engine::is_dead(after) {
@@ -662,7 +708,7 @@ fn advance_byte(text: &[u8], at: usize, grammar: Grammar, state: State, tally: T
     Position {
         at: at + 1,
         state: next,
-        tally: tally_byte(tally, part, engine::kind_of(b)),
+        tally: tally_byte(tally, part, engine::kind_of(values, b)),
     }
 }
 
@@ -684,17 +730,24 @@ fn may_run(text: &[u8], at: usize) -> bool
 }
 
 // The next run or, where there is none, the next byte.
-fn advance(text: &[u8], at: usize, grammar: Grammar, state: State, tally: Tally) -> Position
-    requires { ⌜ (at < length (now text)) × Within tally at ⌝ }
+fn advance(
+    values: &[u8; 256],
+    text: &[u8],
+    at: usize,
+    grammar: Grammar,
+    state: State,
+    tally: Tally,
+) -> Position
+    requires { ⌜ DecodeTable (now values) × (at < length (now text)) × Within tally at ⌝ }
     ensures { λ r. ⌜ Advanced grammar (now (text .entry)) state tally at (r .state) (r .tally) (r .at) × (r .at ≡ at → Stopped grammar (now (text .entry)) state tally at) ⌝ }
 {
     if may_run(text, at) {
-        let run = advance_run(text, at, grammar, state, tally);
+        let run = advance_run(values, text, at, grammar, state, tally);
         if at < run.at {
             return run;
         }
     }
-    advance_byte(text, at, grammar, state, tally)
+    advance_byte(values, text, at, grammar, state, tally)
 }
 
 // Whether a scan is to stop before a byte: it was asked to at the body's first line, and that begins here. White may stand before
@@ -716,6 +769,7 @@ fn stops(asked: bool, phase: Phase, b: u8) -> bool
 
 // Scans a text from a position on, to its first death or the end, or up to the body's first line where that is asked.
 fn scan_on(
+    values: &[u8; 256],
     text: &[u8],
     from: usize,
     grammar: Grammar,
@@ -723,7 +777,7 @@ fn scan_on(
     counted: Tally,
     early: bool,
 ) -> Position
-    requires { ⌜ (from ≤ length (now text)) × Within counted from ⌝ }
+    requires { ⌜ DecodeTable (now values) × (from ≤ length (now text)) × Within counted from ⌝ }
     ensures { λ r. ⌜ Advanced grammar (now (text .entry)) first counted from (r .state) (r .tally) (r .at) × (early ≡ false → Stopped grammar (now (text .entry)) (r .state) (r .tally) (r .at)) ⌝ }
 {
     let mut i = from;
@@ -739,7 +793,7 @@ fn scan_on(
                 tally,
             };
         }
-        let next = advance(text, i, grammar, state, tally);
+        let next = advance(values, text, i, grammar, state, tally);
         let at = next.at;
         if at == i {
             return Position {
@@ -792,28 +846,43 @@ fn scan_at(begin: usize, position: Position) -> Scan
 }
 
 // Reads a text from an offset on with the machine, to its first death or the end.
-pub fn scan_text(text: &[u8], from: TextOffset, grammar: Grammar, first: State) -> Scan
-    requires { ⌜ from .0 ≤ length (now text) ⌝ }
+pub fn scan_text(
+    values: &[u8; 256],
+    text: &[u8],
+    from: TextOffset,
+    grammar: Grammar,
+    first: State,
+) -> Scan
+    requires { ⌜ DecodeTable (now values) × (from .0 ≤ length (now text)) ⌝ }
     ensures { λ r. ⌜ r ≡ scanOf grammar first 0 noTally (drop (from .0) (now (text .entry))) ⌝ }
 {
     let begin = from.0;
     scan_at(
         begin,
-        scan_on(text, begin, grammar, first, no_tally(), false),
+        scan_on(values, text, begin, grammar, first, no_tally(), false),
     )
 }
 
 // Reads a text in the same way from its start on, and decodes the full lines that its body begins with as it passes them.
 pub fn scan_decoding(
+    values: &[u8; 256],
     table: &[u32; 1024],
     text: &[u8],
     grammar: Grammar,
     out: &mut [u8],
 ) -> DecodingScan
-    requires { ⌜ now table ≡ groupTable ⌝ }
+    requires { ⌜ DecodeTable (now values) × (now table ≡ groupTable) ⌝ }
     ensures { λ r. ⌜ (r .scan ≡ scanOf grammar (start grammar) 0 noTally (now (text .entry))) × (length (now (out .exit)) ≡ length (now (out .entry))) × (r .from ≤ r .to) × Decoded (between (now (text .entry)) (r .from) (r .to)) (now (out .exit)) (r .written) ⌝ }
 {
-    let opened = scan_on(text, 0, grammar, engine::start(grammar), no_tally(), true);
+    let opened = scan_on(
+        values,
+        text,
+        0,
+        grammar,
+        engine::start(grammar),
+        no_tally(),
+        true,
+    );
     let from = opened.at;
     let state = opened.state;
     let tally = opened.tally;
@@ -823,7 +892,7 @@ pub fn scan_decoding(
     let state = behind.state;
     let tally = behind.tally;
     DecodingScan {
-        scan: scan_at(0, scan_on(text, to, grammar, state, tally, false)),
+        scan: scan_at(0, scan_on(values, text, to, grammar, state, tally, false)),
         from,
         to,
         written: lines.written,

@@ -4,6 +4,7 @@ ghost use mathlib.Core.Path.{_≡_};
 ghost use mathlib.Core.List.{_++_};
 ghost use Prim.Native.Nat.{_+_, _-_, _*_, _/_, _%_, _≤_, _<_};
 ghost use lib.ListN.{length, replicate};
+ghost use Rattle.base64.specs.Values.{DecodeTable};
 ghost use Rattle.base64.specs.Alphabet.{Sextet, alphabet, charOf};
 ghost use Rattle.base64.specs.Groups.{encode};
 ghost use Rattle.machine.proofs.Machine.{labelEnds};
@@ -17,12 +18,9 @@ ghost use Rattle.writing.proofs.Placed.{placed, Put};
 ghost use Rattle.writing.proofs.Progress.{groupChars, WholeGroups, lineBreak, roomThen, groupText, boundaryLine, Lined, Wrote};
 ghost use Rattle.writer.specs.Tables.{spread, valuesTable, numberAt};
 ghost use Rattle.writer.specs.Values.{Valued, stepFrom, lowChars};
-use base64::DIGIT_0;
 use base64::GROUP_BYTES;
 use base64::GROUP_CHARS;
-use base64::LOWER_A;
-use base64::PLUS;
-use base64::SLASH;
+use base64::RADIX;
 use grammar::BEGIN;
 use grammar::END;
 use grammar::HYPHENS;
@@ -56,8 +54,14 @@ const SECOND: usize = 256;
 
 const THIRD: usize = 512;
 
-// How many values there are.
-const RADIX: u8 = 64;
+// The values of `a`, `0`, `+` and `/`; that of `A` is 0.
+const LOWER_A: u8 = 26;
+
+const DIGIT_0: u8 = 52;
+
+const PLUS: u8 = 62;
+
+const SLASH: u8 = 63;
 
 // Where the alphabet goes on with another run, its characters are further on by so much, or further back: on at `a`, back at `0`
 // and at `+`, and on at `/`.
@@ -89,13 +93,14 @@ fn label_ends(phase: LabelPhase) -> bool
 }
 
 // Whether the bytes are a label: by the very steps in which the reader reads one.
-fn is_label(label: &[u8]) -> bool
+fn is_label(values: &[u8; 256], label: &[u8]) -> bool
+    requires { ⌜ DecodeTable (now values) ⌝ }
     ensures { λ r. ⌜ r ≡ isLabel (now (label .entry)) ⌝ }
 {
     let mut phase = LabelPhase::Start;
     let mut i = 0;
     while i < label.len() {
-        match engine::label_step(phase, label[i]) {
+        match engine::label_step(values, phase, label[i]) {
             LabelTarget::To(next) => {
                 phase = next;
             }
@@ -128,7 +133,8 @@ fn judge(label: &[u8], content: &[u8]) -> Judgement
     if LABEL_LIMIT < label.len() {
         return Judgement::Refused(WriteRefusal::LabelTooLong);
     }
-    if !is_label(label) {
+    let values = base64::decode_table();
+    if !is_label(&values, label) {
         return Judgement::Refused(WriteRefusal::NotALabel);
     }
     if content.len() == 0 {

@@ -7,10 +7,10 @@ use Rattle.base64_vectors.proofs.every_byte.Statement.{statement}
 use Rattle.base64_vectors.proofs.every_byte.Tie as tie
 
 abbrev Inv-loop : tie.InvT-loop
-Inv-loop table outside₀ c₀ outside c = (c ≤ 255) × (outside ≤ c)
+Inv-loop table values outside₀ c₀ outside c = (c ≤ 255) × (outside ≤ c)
 
 abbrev μ-loop : tie.MeasureT-loop
-μ-loop table outside₀ c₀ outside c = 255 - c
+μ-loop table values outside₀ c₀ outside c = 255 - c
 
 loop-holds : tie.Need-loop-holds Inv-loop μ-loop
 loop-holds c = search needs

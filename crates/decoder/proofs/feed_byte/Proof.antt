@@ -15,7 +15,7 @@ enum-known-value c = search needs
 feed-requires : tie.Need-feed-requires
 feed-requires c κs =
     let called = c .before .before .before in
-    (called .before .pre, answer-value (called .before .args .c) _ (sym (called .value-of .ensures) ∙ c .before .value .given .1) .0)
+    (called .before .pre .1, answer-value (called .before .args .c) _ (sym (called .value-of .ensures) ∙ c .before .value .given .1) .0)
 
 enum-told : tie.Need-enum-told
 enum-told c = search needs

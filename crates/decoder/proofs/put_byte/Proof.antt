@@ -19,19 +19,19 @@ enum-known-byte : tie.Need-enum-known-byte
 enum-known-byte c = search needs
 
 slice-write-out : tie.Need-slice-write-out
-slice-write-out c = decoding-below (c .before .before .before .before .before .before .before .pre .1) _ _ (c .before .before .before .before .before .before .before .pre .0) (sym (c .before .before .before .feed-byte .ensures) ∙ c .before .byte .given .1)
+slice-write-out c = decoding-below (c .before .before .before .before .before .before .before .pre .2) _ _ (c .before .before .before .before .before .before .before .pre .1) (sym (c .before .before .before .feed-byte .ensures) ∙ c .before .byte .given .1)
 
-add-t14 : tie.Need-add-t14
-add-t14 c = search needs
+add-t15 : tie.Need-add-t15
+add-t15 c = search needs
 
 returns : tie.Need-returns
-returns c = (refl, decoding-held (c .before .before .before .before .before .before .before .pre .1) _ (c .before .before .before .before .before .before .before .pre .0) (sym (c .before .before .before .feed-byte .ensures) ∙ c .before .next .given .1))
+returns c = (refl, decoding-held (c .before .before .before .before .before .before .before .pre .2) _ (c .before .before .before .before .before .before .before .pre .1) (sym (c .before .before .before .feed-byte .ensures) ∙ c .before .next .given .1))
 
 same-length : tie.Need-same-length
 same-length c = search needs
 
 returns-2 : tie.Need-returns-2
-returns-2 c = (simp length-set, decoding-given (c .before .before .before .before .before .before .before .pre .1) _ _ (c .before .before .before .before .before .before .before .pre .0) (sym (c .before .before .before .feed-byte .ensures) ∙ c .before .byte .given .1))
+returns-2 c = (simp length-set, decoding-given (c .before .before .before .before .before .before .before .pre .2) _ _ (c .before .before .before .before .before .before .before .pre .1) (sym (c .before .before .before .feed-byte .ensures) ∙ c .before .byte .given .1))
 
 pub put-byte-spec : {M : Type 1} → statement M
 put-byte-spec =
@@ -42,7 +42,7 @@ put-byte-spec =
     enum-known-next
     enum-known-byte
     slice-write-out
-    add-t14
+    add-t15
     returns
     same-length
     returns-2)

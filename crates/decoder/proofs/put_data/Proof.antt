@@ -11,10 +11,10 @@ use Rattle.decoder.proofs.put_data.Statement.{statement}
 use Rattle.decoder.proofs.put_data.Tie as tie
 
 abbrev Inv-loop : tie.InvT-loop
-Inv-loop table body from out₀ to group₀ written₀ i₀ out group written i = (i ≤ length body) × (length out ≡ length out₀) × Decoding body out group written i
+Inv-loop values table body from out₀ to group₀ written₀ i₀ out group written i = (i ≤ length body) × (length out ≡ length out₀) × Decoding body out group written i
 
 abbrev μ-loop : tie.MeasureT-loop
-μ-loop table body from out₀ to group₀ written₀ i₀ out group written i = length body - i
+μ-loop values table body from out₀ to group₀ written₀ i₀ out group written i = length body - i
 
 put-blocks-requires : tie.Need-put-blocks-requires Inv-loop μ-loop
 put-blocks-requires c κs = search needs
@@ -25,7 +25,7 @@ loop-holds c =
     (put .inside, refl, put .reached)
 
 put-byte-requires : tie.Need-put-byte-requires Inv-loop μ-loop
-put-byte-requires c κs = (omega arith, c .before .before .loop .inv .2)
+put-byte-requires c κs = (c .before .before .before .before .before .before .before .before .before .pre .0, omega arith, c .before .before .loop .inv .2)
 
 enum-told : tie.Need-enum-told Inv-loop μ-loop
 enum-told c = search needs
@@ -38,7 +38,7 @@ put-blocks-requires-2 c κs =
     let start = c .before .before .before .before .before .before .before .before .before .before .before .before .before .before .before in
     let step = c .before .before .before .before .before .put-byte in
     let e : step .result .group ≡ Start = cc in
-    (start .pre .0, omega arith, rw e at (step .ensures .1))
+    (start .pre .0, start .pre .1, omega arith, rw e at (step .ensures .1))
 
 loop-less : tie.Need-loop-less Inv-loop μ-loop
 loop-less c = omega (arith, c .before .before .put-blocks2 .ensures .1)

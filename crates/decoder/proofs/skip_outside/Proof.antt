@@ -1,8 +1,8 @@
 -- `decoder::skip_outside` meets its contract. Assumes nothing.
+use mathlib.Core.Path.{sym, _∙_}
 use Prim.Native.Nat.{_-_, _≤_}
 use native.Mathlib.Omega.{arith}
 use lib.ListN.{length}
-use borrow.Author.Tests.{not-false}
 use Rattle.runs.specs.Runs.{Outside}
 use Rattle.runs.proofs.Runs.{run-none, run-more}
 use borrow.Author.Needs.{needs}
@@ -10,19 +10,19 @@ use Rattle.decoder.proofs.skip_outside.Statement.{statement}
 use Rattle.decoder.proofs.skip_outside.Tie as tie
 
 abbrev Inv-loop : tie.InvT-loop
-Inv-loop table text from i₀ i = (from ≤ i) × (i ≤ length text) × Outside text from i
+Inv-loop values text from i₀ i = (from ≤ i) × (i ≤ length text) × Outside text from i
 
 abbrev μ-loop : tie.MeasureT-loop
-μ-loop table text from i₀ i = length text - i
+μ-loop values text from i₀ i = length text - i
 
 loop-holds : tie.Need-loop-holds Inv-loop μ-loop
 loop-holds c = (omega arith, search needs, run-none (omega arith))
 
-shared-slice-read-is-outside : tie.Need-shared-slice-read-is-outside Inv-loop μ-loop
-shared-slice-read-is-outside c = search needs
+shared-slice-read-is-character : tie.Need-shared-slice-read-is-character Inv-loop μ-loop
+shared-slice-read-is-character c = search needs
 
-is-outside-requires : tie.Need-is-outside-requires Inv-loop μ-loop
-is-outside-requires c κs = search needs
+is-character-requires : tie.Need-is-character-requires Inv-loop μ-loop
+is-character-requires c κs = search needs
 
 returns : tie.Need-returns Inv-loop μ-loop
 returns c = search needs
@@ -34,7 +34,7 @@ loop-less : tie.Need-loop-less Inv-loop μ-loop
 loop-less c = search needs
 
 loop-again : tie.Need-loop-again Inv-loop μ-loop
-loop-again c = (omega arith, omega arith, run-more (c .before .before .before .before .loop .inv .2) (c .before .is-outside .ensures (not-false _ (c .if1 .left))) _ (omega arith))
+loop-again c = (omega arith, omega arith, run-more (c .before .before .before .before .loop .inv .2) (sym (c .before .is-character .ensures) ∙ c .if1 .left) _ (omega arith))
 
 returns-2 : tie.Need-returns-2 Inv-loop μ-loop
 returns-2 c = search needs
@@ -46,8 +46,8 @@ skip-outside-spec =
     Inv-loop
     μ-loop
     loop-holds
-    shared-slice-read-is-outside
-    is-outside-requires
+    shared-slice-read-is-character
+    is-character-requires
     returns
     add-i
     loop-less

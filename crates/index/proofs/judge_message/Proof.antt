@@ -35,7 +35,7 @@ accepted c = sym (c .before .is-accepting .ensures) ∙ c .if1 .taken
 fits : (c : tie.Then1) → MessageFits (c .before .before .before .before .args .text .now) (c .before .before .before .before .args .from .0) (c .before .before .before .before .args .scan)
 fits c =
     let start = c .before .before .before .before in
-    scan-fits (start .args .grammar) (start .args .text .now) (start .args .from .0) (start .args .scan) (start .pre) (accepted c)
+    scan-fits (start .args .grammar) (start .args .text .now) (start .args .from .0) (start .args .scan) (start .pre .1) (accepted c)
 
 is-accepting-requires : tie.Need-is-accepting-requires
 is-accepting-requires c κs = search needs
@@ -44,7 +44,9 @@ lay-out-requires : tie.Need-lay-out-requires
 lay-out-requires c κs = omega (arith, fits c, c .before .before .before .before .good)
 
 judge-parts-requires : tie.Need-judge-parts-requires
-judge-parts-requires c κs = rw (c .lay-out .ensures) (omega (arith, fits (c .before)))
+judge-parts-requires c κs =
+    let whole = fits (c .before) in
+    (c .before .before .before .before .before .pre .0, rw (c .lay-out .ensures) (omega (arith, whole)), rw (c .lay-out .ensures) (omega (arith, whole)))
 
 returns : tie.Need-returns
 returns c = rw (accepted (c .before .before)) (c .judge-parts .ensures ∙ rw (c .before .lay-out .ensures))
@@ -52,10 +54,10 @@ returns c = rw (accepted (c .before .before)) (c .judge-parts .ensures ∙ rw (c
 part-of-requires : tie.Need-part-of-requires
 part-of-requires c κs = search needs
 
-add-t11 : tie.Need-add-t11
-add-t11 c =
+add-t12 : tie.Need-add-t12
+add-t12 c =
     let start = c .before .before .before .before .before .before .before in
-    omega (arith, scan-within (start .args .grammar) (start .args .text .now) (start .args .from .0) (start .args .scan) (start .pre), start .good)
+    omega (arith, scan-within (start .args .grammar) (start .args .text .now) (start .args .from .0) (start .args .scan) (start .pre .1), start .good)
 
 grammar-refusal-requires : tie.Need-grammar-refusal-requires
 grammar-refusal-requires c κs = search needs
@@ -74,6 +76,6 @@ judge-message-spec =
     judge-parts-requires
     returns
     part-of-requires
-    add-t11
+    add-t12
     grammar-refusal-requires
     returns-2)

@@ -22,10 +22,10 @@ use Rattle.index.proofs.walk.Statement.{statement}
 use Rattle.index.proofs.walk.Tie as tie
 
 abbrev Inv-loop : tie.InvT-loop
-Inv-loop text grammar table₀ first₀ at₀ count₀ table first at count = (length table ≡ length table₀) × Reached grammar text first at count table
+Inv-loop values text grammar table₀ first₀ at₀ count₀ table first at count = (length table ≡ length table₀) × Reached grammar text first at count table
 
 abbrev μ-loop : tie.MeasureT-loop
-μ-loop text grammar table₀ first₀ at₀ count₀ table first at count = length text - at
+μ-loop values text grammar table₀ first₀ at₀ count₀ table first at count = length text - at
 
 -- A turn's judgement, of the scan as it is defined.
 judged : (g : Grammar) (text : List ℕ) (first : State) (at : ℕ) (s : Scan) (j k : Judgement) → s ≡ scanFrom g text at first → j ≡ judgedMessage g text at s → j ≡ k
@@ -66,7 +66,7 @@ fits : (c : tie.After-layout Inv-loop μ-loop)
     × (0 < c .before .before .before .scan-text .result .length)
     × (in-turn c .before .loop .at + c .before .before .before .scan-text .result .length ≤ length (began (in-turn c) .args .text .now))
 fits c =
-    entry-fits (in-turn c .before .loop .inv .1) (in-turn c .loop-test .taken) (began (in-turn c) .pre .0) _ (c .before .before .before .scan-text .ensures) _ _ (sound c)
+    entry-fits (in-turn c .before .loop .inv .1) (in-turn c .loop-test .taken) (began (in-turn c) .pre .1) _ (c .before .before .before .scan-text .ensures) _ _ (sound c)
 
 start-requires : tie.Need-start-requires Inv-loop μ-loop
 start-requires c κs = search needs
@@ -74,7 +74,7 @@ start-requires c κs = search needs
 loop-holds : tie.Need-loop-holds Inv-loop μ-loop
 loop-holds c =
     let at-start = c .before .before .before in
-    (refl, rw (c .start .ensures) (reached-start _ _ _ (at-start .pre .1)))
+    (refl, rw (c .start .ensures) (reached-start _ _ _ (at-start .pre .2)))
 
 scan-text-requires : tie.Need-scan-text-requires Inv-loop μ-loop
 scan-text-requires c κs = search needs
@@ -82,7 +82,7 @@ scan-text-requires c κs = search needs
 judge-message-requires : tie.Need-judge-message-requires Inv-loop μ-loop
 judge-message-requires c κs =
     let reached = c .before .before .loop .inv .1 in
-    record { first = c .before .before .loop .first; isStart = reached .isStart; within = reached .within; scanned = c .scan-text .ensures }
+    (began (c .before) .pre .0, record { first = c .before .before .loop .first; isStart = reached .isStart; within = reached .within; scanned = c .scan-text .ensures })
 
 enum-known-layout : tie.Need-enum-known-layout Inv-loop μ-loop
 enum-known-layout c = search needs
@@ -94,7 +94,7 @@ put-entry-requires : tie.Need-put-entry-requires Inv-loop μ-loop
 put-entry-requires c κs =
     let told = c .before .before .before in
     let reached = in-turn told .before .loop .inv .1 in
-    (omega (arith, reached .few, reached .within, began (in-turn told) .pre .0), rw (c .entry-in .ensures) (fits told .0))
+    (omega (arith, reached .few, reached .within, began (in-turn told) .pre .1), rw (c .entry-in .ensures) (fits told .0))
 
 enum-known-refusal : tie.Need-enum-known-refusal Inv-loop μ-loop
 enum-known-refusal c = search needs
@@ -125,7 +125,7 @@ add-count : tie.Need-add-count Inv-loop μ-loop
 add-count c =
     let told = c .before .before .before .before .before .before .before in
     let reached = in-turn told .before .loop .inv .1 in
-    omega (arith, reached .few, reached .within, began (in-turn told) .pre .0)
+    omega (arith, reached .few, reached .within, began (in-turn told) .pre .1)
 
 loop-less : tie.Need-loop-less Inv-loop μ-loop
 loop-less c =

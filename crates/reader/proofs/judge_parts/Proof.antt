@@ -47,8 +47,8 @@ returns-3 c = rw (short (c .before .before .before .before .before), agreed (c .
 spare-clear-requires : tie.Need-spare-clear-requires
 spare-clear-requires c κs = search needs
 
-add-t18 : tie.Need-add-t18
-add-t18 c = search needs
+add-t19 : tie.Need-add-t19
+add-t19 c = search needs
 
 returns-4 : tie.Need-returns-4
 returns-4 c =
@@ -77,7 +77,7 @@ judge-parts-spec =
     counts-fit-requires
     returns-3
     spare-clear-requires
-    add-t18
+    add-t19
     returns-4
     decoded-count-requires
     returns-5)

@@ -31,7 +31,7 @@ fits : (c : tie.Then2)
     → TallyFits (length (c .before .before .before .before .before .before .args .text .now)) (c .before .before .before .before .before .before .args .scan .tally)
 fits c =
     let start = c .before .before .before .before .before .before in
-    scan-fits (start .args .grammar) (start .args .text .now) (start .args .scan) (start .pre) (c .before .before .if1 .taken) (accepted c)
+    scan-fits (start .args .grammar) (start .args .text .now) (start .args .scan) (start .pre .1) (c .before .before .if1 .taken) (accepted c)
 
 is-accepting-requires : tie.Need-is-accepting-requires
 is-accepting-requires c κs = search needs
@@ -40,7 +40,10 @@ lay-out-requires : tie.Need-lay-out-requires
 lay-out-requires c κs = omega (arith, fits c)
 
 judge-parts-requires : tie.Need-judge-parts-requires
-judge-parts-requires c κs = rw (c .lay-out .ensures) (omega (arith, fits (c .before)))
+judge-parts-requires c κs =
+    let start = c .before .before .before .before .before .before .before in
+    let whole = fits (c .before) in
+    (start .pre .0, rw (c .lay-out .ensures) (omega (arith, whole)), rw (c .lay-out .ensures) (omega (arith, whole)))
 
 returns : tie.Need-returns
 returns c =

@@ -52,7 +52,7 @@ skip-outside-requires : tie.Need-skip-outside-requires
 skip-outside-requires c κs = search needs
 
 sub-put-data : tie.Need-sub-put-data
-sub-put-data c = omega (arith, c .before .before .before .before .before .before .before .before .before .before .before .before .before .pre .3)
+sub-put-data c = omega (arith, c .before .before .before .before .before .before .before .before .before .before .before .before .before .pre .4)
 
 put-data-requires : tie.Need-put-data-requires
 put-data-requires c κs =
@@ -61,9 +61,9 @@ put-data-requires c κs =
     let span = start .args .body in
     let part = c .before .before .before .before .before .before .before .before .before .before .part-at .ensures in
     let skipped = rw part at (c .before .before .before .skip-outside .ensures .2) in
-    let size = spanned-length text span (start .pre .1) in
-    let same = lead text span (start .args .pass .from) (start .args .pass .to) (c .before .before .before .skip-outside .result) (start .pre .1) (omega arith) (start .pre .3) (omega arith) (omega arith) skipped in
-    (start .pre .0, rw (part, size) (omega arith), rw part (decoded-decoding (with-lead same (start .pre .4)) (start .pre .2)))
+    let size = spanned-length text span (start .pre .2) in
+    let same = lead text span (start .args .pass .from) (start .args .pass .to) (c .before .before .before .skip-outside .result) (start .pre .2) (omega arith) (start .pre .4) (omega arith) (omega arith) skipped in
+    (start .pre .0, start .pre .1, rw (part, size) (omega arith), rw part (decoded-decoding (with-lead same (start .pre .5)) (start .pre .3)))
 
 same-length : tie.Need-same-length
 same-length c = search needs
@@ -72,7 +72,7 @@ returns : tie.Need-returns
 returns c = c .before .before .put-data .ensures ∙ rw (c .before .before .before .before .before .before .before .before .before .before .before .before .before .part-at .ensures)
 
 put-data-requires-2 : tie.Need-put-data-requires-2
-put-data-requires-2 c κs = (c .before .before .before .before .before .before .before .pre .0, omega arith, rw (c .before .before .before .part-at .ensures) (decoding-start _ _ (c .before .before .before .before .before .before .before .pre .2)))
+put-data-requires-2 c κs = (c .before .before .before .before .before .before .before .pre .0, c .before .before .before .before .before .before .before .pre .1, omega arith, rw (c .before .before .before .part-at .ensures) (decoding-start _ _ (c .before .before .before .before .before .before .before .pre .3)))
 
 same-length-2 : tie.Need-same-length-2
 same-length-2 c = search needs

@@ -7,7 +7,7 @@ use mathlib.Core.List.{List}
 use borrow.Author.Tests.{lt-ltb, le-ltb}
 use Rattle.grammar.specs.declared.Grammar.{Grammar}
 use Rattle.grammar.specs.declared.Numbered.the-variants.{Known}
-use Rattle.reading.specs.Read.{judgedBy, answered, written}
+use Rattle.reading.specs.Read.{judgedScan, judgedBy, answered, written}
 use Rattle.reading.specs.declared.Judgement.{Judgement}
 use Rattle.reading.specs.declared.Judgement.the-variants.{Sound, Refused}
 use Rattle.reading.specs.declared.ReadAnswer.{ReadAnswer}
@@ -21,13 +21,26 @@ answer-judged : (g : Grammar) (text : List ℕ) (room : ℕ) (j : Judgement) →
     → out ≡ written j text room → (r ≡ answered (judgedBy (Known g) text) room) × (out ≡ written (judgedBy (Known g) text) text room)
 answer-judged g text room j judged r out e f = (e ∙ sym (ap (λ (k : Judgement). answered k room) judged), f ∙ sym (ap (λ (k : Judgement). written k text room) judged))
 
-judged-sound : (c : tie.After-layout)
-    → judgedBy (Known (c .before .before .before .before .before .before .before .before .before .before .before .before .before .args .grammar)) (c .before .before .before .before .before .before .before .before .before .before .before .before .before .args .text .now) ≡ Sound (c .layout .given .0 .0) (c .layout .given .0 .1 .0)
-judged-sound c = rw (le-ltb _ _ (c .before .before .before .before .before .before .before .before .before .before .if1 .left)) (sym (c .before .before .judge-scan .ensures ∙ rw (c .before .before .before .before .before .before .scan-decoding .ensures .0)) ∙ c .layout .given .1)
+-- The places behind the scan and at the start, from the judgement on.
+abbrev passed : tie.After-judge-scan → tie.After-scan-decoding
+passed c = c .before .before .before .before .before
 
-judged : (c : tie.After-refusal)
-    → judgedBy (Known (c .before .before .before .before .before .before .before .before .before .before .before .before .before .args .grammar)) (c .before .before .before .before .before .before .before .before .before .before .before .before .before .args .text .now) ≡ Refused (c .refusal .given .0 .0)
-judged c = rw (le-ltb _ _ (c .before .before .before .before .before .before .before .before .before .before .if1 .left)) (sym (c .before .before .judge-scan .ensures ∙ rw (c .before .before .before .before .before .before .scan-decoding .ensures .0)) ∙ c .refusal .given .1)
+abbrev tables : tie.After-judge-scan → tie.After-group-table
+tables c = passed c .before .before .before .before
+
+abbrev start : tie.After-judge-scan → tie.Start
+start c = tables c .before .before .before .before .before
+
+-- What was judged is what the definition judges.
+judged-scan : (c : tie.After-judge-scan) → judgedBy (Known (start c .args .grammar)) (start c .args .text .now) ≡ c .judge-scan .result
+judged-scan c = rw (le-ltb _ _ (tables c .before .before .if1 .left)) (sym (c .judge-scan .ensures ∙ ap (judgedScan (start c .args .grammar) (start c .args .text .now)) (passed c .scan-decoding .ensures .0)))
+
+judged-sound : (c : tie.After-layout)
+    → judgedBy (Known (start (c .before .before) .args .grammar)) (start (c .before .before) .args .text .now) ≡ Sound (c .layout .given .0 .0) (c .layout .given .0 .1 .0)
+judged-sound c = judged-scan (c .before .before) ∙ c .layout .given .1
+
+judged : (c : tie.After-refusal) → judgedBy (Known (start (c .before .before) .args .grammar)) (start (c .before .before) .args .text .now) ≡ Refused (c .refusal .given .0 .0)
+judged c = judged-scan (c .before .before) ∙ c .refusal .given .1
 
 clear-requires : tie.Need-clear-requires
 clear-requires c κs = search needs
@@ -39,6 +52,9 @@ returns : tie.Need-returns
 returns c =
     let long = lt-ltb _ _ (c .before .before .before .before .if1 .taken) in
     (rw long, c .before .before .clear .ensures ∙ rw long)
+
+decode-table-requires : tie.Need-decode-table-requires
+decode-table-requires c κs = search needs
 
 group-table-requires : tie.Need-group-table-requires
 group-table-requires c κs = search needs
@@ -61,18 +77,19 @@ same-length-2 c = search needs
 returns-2 : tie.Need-returns-2
 returns-2 c =
     let told = c .before .before .before .before .before .before .before .before .before in
-    let start = told .before .before .before .before .before .before .before .before .before .before .before .before .before in
-    let size = told .before .before .before .before .before .before .scan-decoding .ensures .1 in
-    let small = lt-ltb (length (start .args .out .now)) (told .layout .given .0 .1 .0 .0) (omega (arith, c .before .before .before .before .if2 .taken, size)) in
-    answer-judged (start .args .grammar) (start .args .text .now) (length (start .args .out .now)) _ (judged-sound told) _ _ (rw small) (c .before .before .clear2 .ensures ∙ rw (size, small))
+    let a = start (told .before .before) .args in
+    let size = passed (told .before .before) .scan-decoding .ensures .1 in
+    let small = lt-ltb (length (a .out .now)) (told .layout .given .0 .1 .0 .0) (omega (arith, c .before .before .before .before .if2 .taken, size)) in
+    answer-judged (a .grammar) (a .text .now) (length (a .out .now)) _ (judged-sound told) _ _ (rw small) (c .before .before .clear2 .ensures ∙ rw (size, small))
 
 put-body-requires : tie.Need-put-body-requires
 put-body-requires c κs =
-    let told = c .before .before .before .before .before .before .before in
-    let start = told .before .before .before .before .before .before .before .before .before .before .before .before .before in
-    let sound = known-fits (start .args .grammar) (start .args .text .now) (told .layout .given .0 .0) (told .layout .given .0 .1 .0) (judged-sound told) in
-    let pass = c .before .before .before .before .before .before .before .before .before .before .before .before .before .scan-decoding .ensures in
-    (c .before .before .before .before .before .before .before .before .before .before .before .before .before .before .before .before .group-table .ensures, sound .1, omega (arith, sound .2, pass .1), pass .2, pass .3)
+    let told = c .before .before .before .before .before .before .before .before in
+    let judging = told .before .before in
+    let a = start judging .args in
+    let sound = known-fits (a .grammar) (a .text .now) (told .layout .given .0 .0) (told .layout .given .0 .1 .0) (judged-sound told) in
+    let pass = passed judging .scan-decoding .ensures in
+    (tables judging .before .decode-table .ensures, tables judging .group-table .ensures, sound .1, omega (arith, sound .2, pass .1), pass .2, pass .3)
 
 enum-known-refusal : tie.Need-enum-known-refusal
 enum-known-refusal c = search needs
@@ -85,12 +102,12 @@ same-length-3 c = search needs
 
 returns-3 : tie.Need-returns-3
 returns-3 c =
-    let told = c .before .before .before .before .before .before .before .before .before .before in
-    let start = told .before .before .before .before .before .before .before .before .before .before .before .before .before in
-    let size = told .before .before .before .before .before .before .scan-decoding .ensures .1 in
-    let sound = known-fits (start .args .grammar) (start .args .text .now) (told .layout .given .0 .0) (told .layout .given .0 .1 .0) (judged-sound told) in
-    let room = le-ltb (length (start .args .out .now)) (told .layout .given .0 .1 .0 .0) (omega (arith, c .before .before .before .before .before .if2 .left, size)) in
-    answer-judged (start .args .grammar) (start .args .text .now) (length (start .args .out .now)) _ (judged-sound told) _ _ (rw room) (c .before .before .put-body .ensures ∙ rw (room, size, sound .2))
+    let told = c .before .before .before .before .before .before .before .before .before .before .before in
+    let a = start (told .before .before) .args in
+    let size = passed (told .before .before) .scan-decoding .ensures .1 in
+    let sound = known-fits (a .grammar) (a .text .now) (told .layout .given .0 .0) (told .layout .given .0 .1 .0) (judged-sound told) in
+    let room = le-ltb (length (a .out .now)) (told .layout .given .0 .1 .0 .0) (omega (arith, c .before .before .before .before .before .before .if2 .left, size)) in
+    answer-judged (a .grammar) (a .text .now) (length (a .out .now)) _ (judged-sound told) _ _ (rw room) (c .before .before .put-body .ensures ∙ rw (room, size, sound .2))
 
 same-length-4 : tie.Need-same-length-4
 same-length-4 c = search needs
@@ -98,9 +115,9 @@ same-length-4 c = search needs
 returns-4 : tie.Need-returns-4
 returns-4 c =
     let refused = c .before .before .before .before .before in
-    let start = refused .before .before .before .before .before .before .before .before .before .before .before .before .before in
-    let size = refused .before .before .before .before .before .before .scan-decoding .ensures .1 in
-    answer-judged (start .args .grammar) (start .args .text .now) (length (start .args .out .now)) _ (judged refused) _ _ refl (c .before .before .clear3 .ensures ∙ rw size)
+    let a = start (refused .before .before) .args in
+    let size = passed (refused .before .before) .scan-decoding .ensures .1 in
+    answer-judged (a .grammar) (a .text .now) (length (a .out .now)) _ (judged refused) _ _ refl (c .before .before .clear3 .ensures ∙ rw size)
 
 pub read-known-spec : {M : Type 1} → statement M
 read-known-spec =
@@ -109,6 +126,7 @@ read-known-spec =
     clear-requires
     same-length
     returns
+    decode-table-requires
     group-table-requires
     scan-decoding-requires
     judge-scan-requires

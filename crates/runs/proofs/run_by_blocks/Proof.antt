@@ -9,10 +9,10 @@ use Rattle.runs.proofs.run_by_blocks.Statement.{statement}
 use Rattle.runs.proofs.run_by_blocks.Tie as tie
 
 abbrev Inv-loop : tie.InvT-loop
-Inv-loop text from limit at₀ at = (from ≤ at) × (at ≤ limit) × Characters text from at
+Inv-loop values text from limit at₀ at = (from ≤ at) × (at ≤ limit) × Characters text from at
 
 abbrev μ-loop : tie.MeasureT-loop
-μ-loop text from limit at₀ at = limit - at
+μ-loop values text from limit at₀ at = limit - at
 
 loop-holds : tie.Need-loop-holds Inv-loop μ-loop
 loop-holds c = (omega arith, omega arith, run-none (omega arith))
@@ -20,11 +20,11 @@ loop-holds c = (omega arith, omega arith, run-none (omega arith))
 sub-loop : tie.Need-sub-loop Inv-loop μ-loop
 sub-loop c = search needs
 
-shared-slice-read-outside : tie.Need-shared-slice-read-outside Inv-loop μ-loop
-shared-slice-read-outside c = search needs
+shared-slice-read-is-character : tie.Need-shared-slice-read-is-character Inv-loop μ-loop
+shared-slice-read-is-character c = search needs
 
-outside-requires : tie.Need-outside-requires Inv-loop μ-loop
-outside-requires c κs = search needs
+is-character-requires : tie.Need-is-character-requires Inv-loop μ-loop
+is-character-requires c κs = search needs
 
 returns : tie.Need-returns Inv-loop μ-loop
 returns c = search needs
@@ -55,8 +55,8 @@ run-by-blocks-spec =
     μ-loop
     loop-holds
     sub-loop
-    shared-slice-read-outside
-    outside-requires
+    shared-slice-read-is-character
+    is-character-requires
     returns
     all-characters-requires
     returns-2

@@ -9,10 +9,10 @@ use Rattle.runs.proofs.run_by_lines.Statement.{statement}
 use Rattle.runs.proofs.run_by_lines.Tie as tie
 
 abbrev Inv-loop : tie.InvT-loop
-Inv-loop text from limit at₀ at = (from ≤ at) × (at ≤ limit) × Characters text from at
+Inv-loop values text from limit at₀ at = (from ≤ at) × (at ≤ limit) × Characters text from at
 
 abbrev μ-loop : tie.MeasureT-loop
-μ-loop text from limit at₀ at = limit - at
+μ-loop values text from limit at₀ at = limit - at
 
 loop-holds : tie.Need-loop-holds Inv-loop μ-loop
 loop-holds c = (omega arith, omega arith, run-none (omega arith))
@@ -29,11 +29,11 @@ returns c = search needs
 add-at : tie.Need-add-at Inv-loop μ-loop
 add-at c = search needs
 
-shared-slice-read-outside : tie.Need-shared-slice-read-outside Inv-loop μ-loop
-shared-slice-read-outside c = search needs
+shared-slice-read-is-character : tie.Need-shared-slice-read-is-character Inv-loop μ-loop
+shared-slice-read-is-character c = search needs
 
-outside-requires : tie.Need-outside-requires Inv-loop μ-loop
-outside-requires c κs = search needs
+is-character-requires : tie.Need-is-character-requires Inv-loop μ-loop
+is-character-requires c κs = search needs
 
 returns-2 : tie.Need-returns-2 Inv-loop μ-loop
 returns-2 c = (omega arith, omega arith, run-then (c .before .before .before .before .before .before .before .loop .inv .2) (c .before .before .before .before .before .all-characters .ensures (not-false _ (c .before .before .before .before .if1 .left))))
@@ -64,8 +64,8 @@ run-by-lines-spec =
     all-characters-requires
     returns
     add-at
-    shared-slice-read-outside
-    outside-requires
+    shared-slice-read-is-character
+    is-character-requires
     returns-2
     loop-less
     loop-again

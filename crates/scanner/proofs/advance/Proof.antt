@@ -11,7 +11,7 @@ may-run-requires c κs = search needs
 advance-run-requires : tie.Need-advance-run-requires
 advance-run-requires c κs =
     let start = c .before .before .before in
-    (countable (start .args .text .now) (omega arith) (omega (arith, start .good)) (start .pre .1), start .pre .0)
+    (start .pre .0, countable (start .args .text .now) (omega arith) (omega (arith, start .good)) (start .pre .2), start .pre .1)
 
 returns : tie.Need-returns
 returns c = (c .before .before .advance-run .ensures, λ e. absurd (omega arith))

@@ -24,13 +24,13 @@ full-lines-requires c κs = search needs
 behind-lines-requires : tie.Need-behind-lines-requires
 behind-lines-requires c κs =
     let start = c .before .before in
-    lines-fit (start .args .text .now) (start .args .counted) (start .pre) (lines-inside (start .pre .0) (c .full-lines .ensures))
+    lines-fit (start .args .text .now) (start .args .counted) (start .pre .1) (lines-inside (start .pre .1 .0) (c .full-lines .ensures))
 
 advance-lines-requires : tie.Need-advance-lines-requires
 advance-lines-requires c κs =
     let start = c .before .before .before .before .before in
-    let inside = lines-inside (start .pre .0) (c .before .before .before .full-lines .ensures) in
-    behind-countable (start .args .text .now) (start .args .first) (start .args .counted) (start .args .behind) (start .pre) inside (c .before .before .behind-lines .result) (c .before .before .behind-lines .ensures)
+    let inside = lines-inside (start .pre .1 .0) (c .before .before .before .full-lines .ensures) in
+    (start .pre .0, behind-countable (start .args .text .now) (start .args .first) (start .args .counted) (start .args .behind) (start .pre .1) inside (c .before .before .behind-lines .result) (c .before .before .behind-lines .ensures))
 
 returns : tie.Need-returns
 returns c =
@@ -41,7 +41,7 @@ returns c =
     let phase = behind-phase first (start .args .counted) (start .args .behind) (start .args .from) (lines .result .end) (lines .result .groups) (lines .result .last) (passed .result) (passed .ensures) in
     λ g l.
     advanced-then
-    (lines-passed (any-line-from l) (any-line-from (phases-behind l)) (start .pre .0) (first .cr) (start .args .counted) (lines .ensures) (passed .result) (passed .ensures))
+    (lines-passed (any-line-from l) (any-line-from (phases-behind l)) (start .pre .1 .0) (first .cr) (start .args .counted) (lines .ensures) (passed .result) (passed .ensures))
     (c .advance-lines .ensures g (begins l phase))
 
 pub advance-any-lines-spec : {M : Type 1} → statement M

@@ -18,7 +18,7 @@ is-dead-requires c κs = search needs
 returns : tie.Need-returns
 returns c =
     let start = c .before .before .before .before .before in
-    (advanced-none (start .args .state) (start .args .tally) (start .args .at) (omega arith), λ _. stopped-dead _ _ _ _ _ (start .pre .0) _ (c .before .before .step .ensures) (sym (c .before .is-dead .ensures) ∙ c .if1 .taken))
+    (advanced-none (start .args .state) (start .args .tally) (start .args .at) (omega arith), λ _. stopped-dead _ _ _ _ _ (start .pre .1) _ (c .before .before .step .ensures) (sym (c .before .is-dead .ensures) ∙ c .if1 .taken))
 
 part-of-requires : tie.Need-part-of-requires
 part-of-requires c κs = search needs
@@ -29,19 +29,19 @@ part-of-requires-2 c κs = search needs
 byte-part-requires : tie.Need-byte-part-requires
 byte-part-requires c κs = search needs
 
-add-t16 : tie.Need-add-t16
-add-t16 c = search needs
+add-t17 : tie.Need-add-t17
+add-t17 c = search needs
 
 kind-of-requires : tie.Need-kind-of-requires
 kind-of-requires c κs = search needs
 
 tally-byte-requires : tie.Need-tally-byte-requires
-tally-byte-requires c κs = omega (arith, c .before .before .before .before .before .before .before .before .before .pre .1, c .before .before .before .before .before .before .before .before .before .good)
+tally-byte-requires c κs = omega (arith, c .before .before .before .before .before .before .before .before .before .pre .2, c .before .before .before .before .before .before .before .before .before .good)
 
 returns-2 : tie.Need-returns-2
 returns-2 c =
     let start = c .before .before .before .before .before .before .before .before .before .before in (
-      advanced-byte (start .args .state) (start .args .tally) (start .args .at) _ _ (start .pre .0) (sym (c .before .before .before .before .before .before .before .step .ensures)) (sym (c .before .before .before .before .before .before .is-dead .ensures) ∙ c .before .before .before .before .before .if1 .left)
+      advanced-byte (start .args .state) (start .args .tally) (start .args .at) _ _ (start .pre .1) (sym (c .before .before .before .before .before .before .before .step .ensures)) (sym (c .before .before .before .before .before .before .is-dead .ensures) ∙ c .before .before .before .before .before .if1 .left)
           (c .tally-byte .ensures ∙ rw (c .before .kind-of .ensures, c .before .before .byte-part .ensures, c .before .before .before .before .part-of .ensures, c .before .before .before .part-of2 .ensures)),
       λ e. absurd (omega arith),
     )
@@ -57,7 +57,7 @@ advance-byte-spec =
     part-of-requires
     part-of-requires-2
     byte-part-requires
-    add-t16
+    add-t17
     kind-of-requires
     tally-byte-requires
     returns-2)

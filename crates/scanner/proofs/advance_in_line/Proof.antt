@@ -14,7 +14,7 @@ short-run-end-requires c κs = search needs
 returns : tie.Need-returns
 returns c =
     let start = c .before .before .before .before in
-    λ g w. advanced-none (start .args .first) (start .args .counted) (start .args .from) (start .pre .0)
+    λ g w. advanced-none (start .args .first) (start .args .counted) (start .args .from) (start .pre .1 .0)
 
 sub-n : tie.Need-sub-n
 sub-n c = search needs

@@ -9,10 +9,10 @@ use Rattle.scanner.proofs.advance_lines.Statement.{statement}
 use Rattle.scanner.proofs.advance_lines.Tie as tie
 
 abbrev Inv-loop : tie.InvT-loop
-Inv-loop text from within behind trailing resumes at₀ state₀ tally₀ at state tally = Walk text within behind trailing resumes state₀ tally₀ at₀ state tally at
+Inv-loop values text from within behind trailing resumes at₀ state₀ tally₀ at state tally = Walk text within behind trailing resumes state₀ tally₀ at₀ state tally at
 
 abbrev μ-loop : tie.MeasureT-loop
-μ-loop text from within behind trailing resumes at₀ state₀ tally₀ at state tally = length text - at
+μ-loop values text from within behind trailing resumes at₀ state₀ tally₀ at state tally = length text - at
 
 loop-holds : tie.Need-loop-holds Inv-loop μ-loop
 loop-holds c = walk-start (search needs)

@@ -25,13 +25,13 @@ full-lines-requires c κs = search needs
 behind-lines-requires : tie.Need-behind-lines-requires
 behind-lines-requires c κs =
     let start = c .before .before in
-    lines-fit (start .args .text .now) (start .args .counted) (start .pre) (lines-inside (start .pre .0) (c .full-lines .ensures))
+    lines-fit (start .args .text .now) (start .args .counted) (start .pre .1) (lines-inside (start .pre .1 .0) (c .full-lines .ensures))
 
 advance-in-line-requires : tie.Need-advance-in-line-requires
 advance-in-line-requires c κs =
     let start = c .before .before .before .before .before in
-    let inside = lines-inside (start .pre .0) (c .before .before .before .full-lines .ensures) in
-    behind-countable (start .args .text .now) (start .args .first) (start .args .counted) (Strict Line) (start .pre) inside (c .before .before .behind-lines .result) (c .before .before .behind-lines .ensures)
+    let inside = lines-inside (start .pre .1 .0) (c .before .before .before .full-lines .ensures) in
+    (start .pre .0, behind-countable (start .args .text .now) (start .args .first) (start .args .counted) (Strict Line) (start .pre .1) inside (c .before .before .behind-lines .result) (c .before .before .behind-lines .ensures))
 
 returns : tie.Need-returns
 returns c =
@@ -41,7 +41,7 @@ returns c =
     let first = start .args .first in
     λ g w.
     let all = strict-lines w in
-    let there = lines-passed (full-line-from (all .first)) (full-line-from (all .again)) (start .pre .0) (first .cr) (start .args .counted) (lines .ensures) (passed .result) (passed .ensures) in
+    let there = lines-passed (full-line-from (all .first)) (full-line-from (all .again)) (start .pre .1 .0) (first .cr) (start .args .counted) (lines .ensures) (passed .result) (passed .ensures) in
     advanced-then there (c .advance-in-line .ensures g (begins g w (behind-phase first (start .args .counted) (Strict Line) (start .args .from) (lines .result .end) (lines .result .groups) (lines .result .last) (passed .result) (passed .ensures))))
 
 pub advance-strict-lines-spec : {M : Type 1} → statement M

@@ -14,14 +14,14 @@ no-tally-requires : tie.Need-no-tally-requires
 no-tally-requires c κs = search needs
 
 scan-on-requires : tie.Need-scan-on-requires
-scan-on-requires c κs = (omega arith, rw (c .no-tally .ensures) (omega arith))
+scan-on-requires c κs = (c .before .before .before .before .pre .0, omega arith, rw (c .no-tally .ensures) (omega arith))
 
 decode-lines-requires : tie.Need-decode-lines-requires
 decode-lines-requires c κs =
     let start = c .before .before .before .before .before .before .before .before in
     let opened = c .before .before .before .scan-on .ensures .0 in
     let within = within-there opened (rw (c .before .before .before .before .no-tally .ensures) (omega arith)) in
-    (start .pre, countable (start .args .text .now) (opened .inside) (omega (arith, start .good)) within)
+    (start .pre .1, countable (start .args .text .now) (opened .inside) (omega (arith, start .good)) within)
 
 scan-on-requires-2 : tie.Need-scan-on-requires-2
 scan-on-requires-2 c κs =
@@ -29,7 +29,7 @@ scan-on-requires-2 c κs =
     let opened = c .before .before .before .before .before .before .before .before .before .scan-on .ensures .0 in
     let within = within-there opened (rw (c .before .before .before .before .before .before .before .before .before .before .no-tally .ensures) (omega arith)) in
     let lines = c .before .before .before .before .before .decode-lines .ensures .2 (start .args .grammar) in
-    (lines .inside, within-there lines within)
+    (start .pre .0, lines .inside, within-there lines within)
 
 scan-at-requires : tie.Need-scan-at-requires
 scan-at-requires c κs = omega arith

@@ -11,13 +11,13 @@ use Rattle.scanner.proofs.scan_on.Statement.{statement}
 use Rattle.scanner.proofs.scan_on.Tie as tie
 
 abbrev Inv-loop : tie.InvT-loop
-Inv-loop text from grammar early i₀ state₀ tally₀ i state tally = Advanced grammar text state₀ tally₀ i₀ state tally i
+Inv-loop values text from grammar early i₀ state₀ tally₀ i state tally = Advanced grammar text state₀ tally₀ i₀ state tally i
 
 abbrev μ-loop : tie.MeasureT-loop
-μ-loop text from grammar early i₀ state₀ tally₀ i state tally = length text - i
+μ-loop values text from grammar early i₀ state₀ tally₀ i state tally = length text - i
 
 loop-holds : tie.Need-loop-holds Inv-loop μ-loop
-loop-holds c = advanced-none _ _ _ (c .before .pre .0)
+loop-holds c = advanced-none _ _ _ (c .before .pre .1)
 
 shared-slice-read-b : tie.Need-shared-slice-read-b Inv-loop μ-loop
 shared-slice-read-b c = search needs
@@ -29,7 +29,9 @@ returns : tie.Need-returns Inv-loop μ-loop
 returns c = (c .before .before .before .before .loop .inv, λ e. absurd (true≢false (sym (c .if1 .taken) ∙ c .before .stops .ensures e)))
 
 advance-requires : tie.Need-advance-requires Inv-loop μ-loop
-advance-requires c κs = (omega arith, within-there (c .before .before .before .before .loop .inv) (c .before .before .before .before .before .before .pre .1))
+advance-requires c κs =
+    let start = c .before .before .before .before .before .before in
+    (start .pre .0, omega arith, within-there (c .before .before .before .before .loop .inv) (start .pre .2))
 
 returns-2 : tie.Need-returns-2 Inv-loop μ-loop
 returns-2 c = (c .before .before .before .before .before .before .loop .inv, λ _. c .before .advance .ensures .1 (c .if2 .taken))

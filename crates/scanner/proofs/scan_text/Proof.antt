@@ -11,7 +11,7 @@ no-tally-requires : tie.Need-no-tally-requires
 no-tally-requires c κs = search needs
 
 scan-on-requires : tie.Need-scan-on-requires
-scan-on-requires c κs = (c .before .before .pre, rw (c .no-tally .ensures) (omega arith))
+scan-on-requires c κs = (c .before .before .pre .0, c .before .before .pre .1, rw (c .no-tally .ensures) (omega arith))
 
 scan-at-requires : tie.Need-scan-at-requires
 scan-at-requires c κs = c .scan-on .ensures .0 .forward

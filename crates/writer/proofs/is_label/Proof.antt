@@ -27,10 +27,10 @@ unfolding labelFrom
 label-end p = refl
 
 abbrev Inv-loop : tie.InvT-loop
-Inv-loop label phase₀ i₀ phase i = (i ≤ length label) × (isLabel label ≡ labelFrom phase (drop i label))
+Inv-loop values label phase₀ i₀ phase i = (i ≤ length label) × (isLabel label ≡ labelFrom phase (drop i label))
 
 abbrev μ-loop : tie.MeasureT-loop
-μ-loop label phase₀ i₀ phase i = length label - i
+μ-loop values label phase₀ i₀ phase i = length label - i
 
 loop-holds : tie.Need-loop-holds Inv-loop μ-loop
 loop-holds c = (search needs, refl)
