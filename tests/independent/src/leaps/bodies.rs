@@ -1,7 +1,7 @@
 //! What stands between the boundaries: lines of each width and line end, damage at their edges, and runs of white.
 
 use super::damage;
-use super::lines::{Lines, CRLF, ENDS, LF, PLAIN, SPACINGS, WIDTHS};
+use super::lines::{Ends, Lines, Spacing, BLANK_WITHIN, CRLF, ENDS, LF, PLAIN, SPACINGS, WIDTHS};
 use super::pairs;
 use crate::paper::LINE;
 use crate::random::Random;
@@ -37,6 +37,17 @@ const DAMAGED_WIDTHS: [usize; 14] = [4, 15, 16, 17, 48, 60, 61, 62, 63, 65, 66, 
 /// The last lines of damaged texts, by groups and pads: of 20 and of 64 characters with their pads.
 const SHORT_LAST: (usize, usize) = (4, 1);
 const LONG_LAST: (usize, usize) = (15, 2);
+
+/// Lines in which each byte is tried everywhere: of blocks alone; with a rest of 12, 13, 15, 5 or 3 characters, alone or behind
+/// blocks, and a group on two lines where they are no whole groups; and with a blank behind the first 16.
+const BYTES_IN: &[(&[usize], Ends, Spacing)] = &[
+    (&[LINE], LF, PLAIN),
+    (&[LINE], CRLF, PLAIN),
+    (&[LINE + 16], LF, PLAIN),
+    (&[76, 61], LF, PLAIN),
+    (&[15, 5, 3], CRLF, PLAIN),
+    (&[36], LF, BLANK_WITHIN),
+];
 
 /// Where runs of white are put into a strict message of a full line and of one with two characters and two pads: before and
 /// in the opening, around and in each line, around the pads, and around the closing.
@@ -151,16 +162,17 @@ pub fn starts(trial: &mut Trial, random: &mut Random) {
     }
 }
 
-/// Every byte in place of every character of a line and of its line end.
+/// Every byte in place of every character of lines and of their line ends.
 pub fn every_byte(trial: &mut Trial, random: &mut Random) {
     let bytes: Vec<u8> = (0..=u8::MAX).collect();
-    for (width, ends) in [(LINE, LF), (LINE, CRLF), (LINE + 16, LF)] {
+    for &(widths, ends, spacing) in BYTES_IN {
         let lines = Lines {
             ends,
-            ..Lines::of(&[width], 1, 0)
+            spacing,
+            ..Lines::of(widths, 1, 0)
         };
         let lined = lines.lined(random);
-        let places: Vec<usize> = (lined.starts[1]..=lined.starts[2]).collect();
+        let places: Vec<usize> = (lined.starts[1]..=lined.starts[widths.len() + 1]).collect();
         for (place, byte) in pairs(&places, &bytes) {
             let mut text = lined.text.clone();
             text[place] = byte;

@@ -50,6 +50,7 @@ pub const PLAIN: Spacing = Spacing {
     between: 0,
     trailing: 0,
 };
+pub const BLANK_WITHIN: Spacing = Spacing { within: b" ", ..PLAIN };
 /// Each has one thing that the plain one has not.
 pub const SPACINGS: [Spacing; 12] = [
     Spacing { behind: b" ", ..PLAIN },
@@ -70,7 +71,7 @@ pub const SPACINGS: [Spacing; 12] = [
         before: b"\x0b\t",
         ..PLAIN
     },
-    Spacing { within: b" ", ..PLAIN },
+    BLANK_WITHIN,
     Spacing {
         within: b"\x0c\t",
         ..PLAIN
