@@ -126,6 +126,14 @@ pub fn skip_outside(values: &[u8; 256], text: &[u8], from: usize) -> usize
     i
 }
 
+// Whether a run ends before a byte, since no group begins with it. No promise rests on it: it spares groups that would fail, and
+// costs little, since their first entry is looked up in any case.
+fn ends_run(table: &[u32; 1024], c: u8) -> bool
+    requires { ⌜ now table ≡ groupTable ⌝ }
+{
+    MARK <= wide(entry_in(table, 0, c))
+}
+
 // Four groups at a time from a place on, as long as they stand side by side; how many groups that are. Here and below the output
 // is not written to its last byte, for the byte that is written too much.
 fn run_of_fours(table: &[u32; 1024], text: &[u8], from: usize, out: &mut [u8], to: usize) -> usize
@@ -137,6 +145,9 @@ fn run_of_fours(table: &[u32; 1024], text: &[u8], from: usize, out: &mut [u8], t
     let mut groups = 0;
     while FOUR_CHARS <= text.len() - i {
         if out.len() - at <= FOUR_BYTES {
+            return groups;
+        }
+        if ends_run(table, text[i]) {
             return groups;
         }
         if MARK <= put_four_groups(table, text, i, out, at) {
@@ -159,6 +170,9 @@ fn run_of_ones(table: &[u32; 1024], text: &[u8], from: usize, out: &mut [u8], to
     let mut groups = 0;
     while GROUP_CHARS <= text.len() - i {
         if out.len() - at <= GROUP_BYTES {
+            return groups;
+        }
+        if ends_run(table, text[i]) {
             return groups;
         }
         if MARK <= put_group(table, text, i, out, at) {

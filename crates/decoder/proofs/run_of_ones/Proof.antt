@@ -3,6 +3,7 @@ use Prim.Native.Nat.{_+_, _-_, _*_}
 use native.Mathlib.Omega.{arith}
 use lib.ListN.{length}
 use mathlib.Core.Path.{_≡_, _∙_}
+use borrow.Author.Needs.{needs}
 use Rattle.decoder.specs.Decoding.{Put}
 use Rattle.decoder.proofs.Decoding.{put-none, put-known, put-then, put-kept}
 use Rattle.decoder.proofs.run_of_ones.Statement.{statement}
@@ -13,6 +14,13 @@ Inv-loop table text from out₀ to i₀ at₀ groups₀ out i at groups = (i ≡
 
 abbrev μ-loop : tie.MeasureT-loop
 μ-loop table text from out₀ to i₀ at₀ groups₀ out i at groups = length text - i
+
+-- The start, from the head of the loop, and the head of a turn, from the groups that it writes.
+abbrev start : tie.At-loop Inv-loop μ-loop → tie.Start Inv-loop μ-loop
+start c = c .before .before .before
+
+abbrev turn : tie.After-put-group Inv-loop μ-loop → tie.At-loop Inv-loop μ-loop
+turn c = c .before .before .before .before .before .before .before
 
 loop-holds : tie.Need-loop-holds Inv-loop μ-loop
 loop-holds c = (omega arith, omega arith, put-none _ _ _ _ (c .before .before .pre .1) (c .before .before .pre .2))
@@ -29,40 +37,64 @@ same-length c = c .before .before .loop .inv .2 .size
 returns : tie.Need-returns Inv-loop μ-loop
 returns c = c .before .before .loop .inv .2
 
-put-group-requires : tie.Need-put-group-requires Inv-loop μ-loop
-put-group-requires c κs =
-    let inv = c .before .before .before .loop .inv in
-    (c .before .before .before .before .before .before .pre .0, omega (arith, inv .0, inv .2 .stands), omega (arith, inv .1, inv .2 .room, inv .2 .size))
+shared-slice-read-ends-run : tie.Need-shared-slice-read-ends-run Inv-loop μ-loop
+shared-slice-read-ends-run c = search needs
+
+ends-run-requires : tie.Need-ends-run-requires Inv-loop μ-loop
+ends-run-requires c κs = search needs
 
 same-length-2 : tie.Need-same-length-2 Inv-loop μ-loop
-same-length-2 c = c .before .before .before .put-group .ensures .1 .size ∙ c .before .before .before .before .before .before .before .loop .inv .2 .size
+same-length-2 c = c .before .before .before .before .before .loop .inv .2 .size
 
 returns-2 : tie.Need-returns-2 Inv-loop μ-loop
-returns-2 c = put-kept (c .before .before .before .before .before .before .before .loop .inv .2) (c .before .before .before .put-group .ensures .1) (c .before .before .before .before .before .before .before .loop .inv .1)
+returns-2 c = c .before .before .before .before .before .loop .inv .2
+
+put-group-requires : tie.Need-put-group-requires Inv-loop μ-loop
+put-group-requires c κs =
+    let head = c .before .before .before .before .before .before in
+    let inv = head .loop .inv in
+    (start head .pre .0, omega (arith, inv .0, inv .2 .stands), omega (arith, inv .1, inv .2 .room, inv .2 .size))
+
+same-length-3 : tie.Need-same-length-3 Inv-loop μ-loop
+same-length-3 c =
+    let put = c .before .before .before in
+    put .put-group .ensures .1 .size ∙ turn put .loop .inv .2 .size
+
+returns-3 : tie.Need-returns-3 Inv-loop μ-loop
+returns-3 c =
+    let put = c .before .before .before in
+    let inv = turn put .loop .inv in
+    put-kept (inv .2) (put .put-group .ensures .1) (inv .1)
 
 add-i : tie.Need-add-i Inv-loop μ-loop
-add-i c = record { fits = omega (arith, c .before .before .before .put-group .ensures .1 .stands, c .before .before .before .before .before .before .before .before .before .before .good) }
+add-i c =
+    let put = c .before .before .before in
+    record { fits = omega (arith, put .put-group .ensures .1 .stands, start (turn put) .good) }
 
 add-at : tie.Need-add-at Inv-loop μ-loop
-add-at c = record { fits = omega (arith, c .before .before .before .before .before .before .before .loop .inv .1, c .before .before .before .before .before .before .before .loop .inv .2 .room, c .before .before .before .before .before .before .before .before .before .before .good) }
+add-at c =
+    let head = turn (c .before .before .before) in
+    record { fits = omega (arith, head .loop .inv .1, head .loop .inv .2 .room, start head .good) }
 
 add-groups : tie.Need-add-groups Inv-loop μ-loop
-add-groups c = record { fits = omega (arith, c .before .before .before .put-group .ensures .1 .stands, c .before .before .before .before .before .before .before .loop .inv .0, c .before .before .before .before .before .before .before .before .before .before .good) }
+add-groups c =
+    let put = c .before .before .before in
+    record { fits = omega (arith, put .put-group .ensures .1 .stands, turn put .loop .inv .0, start (turn put) .good) }
 
 loop-less : tie.Need-loop-less Inv-loop μ-loop
 loop-less c = omega (arith, c .before .before .before .put-group .ensures .1 .stands)
 
 loop-again : tie.Need-loop-again Inv-loop μ-loop
 loop-again c =
-    let inv = c .before .before .before .before .before .before .before .loop .inv in
-    let put = c .before .before .before .put-group .ensures .1 in
-    (omega (arith, inv .0), omega (arith, inv .1), put-then (inv .2) _ _ (inv .1) (inv .0) (put-known put (omega arith)) _ 0 (omega arith) (omega arith))
+    let put = c .before .before .before in
+    let inv = turn put .loop .inv in
+    (omega (arith, inv .0), omega (arith, inv .1), put-then (inv .2) _ _ (inv .1) (inv .0) (put-known (put .put-group .ensures .1) (omega arith)) _ 0 (omega arith) (omega arith))
 
-same-length-3 : tie.Need-same-length-3 Inv-loop μ-loop
-same-length-3 c = c .before .loop .inv .2 .size
+same-length-4 : tie.Need-same-length-4 Inv-loop μ-loop
+same-length-4 c = c .before .loop .inv .2 .size
 
-returns-3 : tie.Need-returns-3 Inv-loop μ-loop
-returns-3 c = c .before .loop .inv .2
+returns-4 : tie.Need-returns-4 Inv-loop μ-loop
+returns-4 c = c .before .loop .inv .2
 
 pub run-of-ones-spec : {M : Type 1} → statement M
 run-of-ones-spec =
@@ -75,13 +107,17 @@ run-of-ones-spec =
     sub-if1
     same-length
     returns
-    put-group-requires
+    shared-slice-read-ends-run
+    ends-run-requires
     same-length-2
     returns-2
+    put-group-requires
+    same-length-3
+    returns-3
     add-i
     add-at
     add-groups
     loop-less
     loop-again
-    same-length-3
-    returns-3)
+    same-length-4
+    returns-4)
