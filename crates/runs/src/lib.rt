@@ -141,11 +141,14 @@ pub fn short_run_end(values: &[u8; 256], text: &[u8], from: usize, limit: usize)
     run_by_bytes(values, text, blocks, limit)
 }
 
-// The end of a run of any length.
-fn run_end(values: &[u8; 256], text: &[u8], from: usize, limit: usize) -> usize
+// The end of a run of any length. Where a short one is likely no full line is tried first; what is found is the same.
+fn run_end(values: &[u8; 256], text: &[u8], from: usize, limit: usize, short: bool) -> usize
     requires { ⌜ DecodeTable (now values) × (from ≤ limit) × (limit ≤ length (now text)) ⌝ }
     ensures { λ r. ⌜ (from ≤ r) × (r ≤ limit) × Characters (now (text .entry)) from r ⌝ }
 {
+    if short {
+        return short_run_end(values, text, from, limit);
+    }
     let lines = run_by_lines(values, text, from, limit);
     short_run_end(values, text, lines, limit)
 }
@@ -219,12 +222,12 @@ pub fn pads_at(text: &[u8], at: usize) -> usize
     2
 }
 
-// What stands at a place: a run of characters, blanks, a line end.
-pub fn line_at(values: &[u8; 256], text: &[u8], at: usize) -> Line
+// What stands at a place: a run of characters, which is likely to be short or not, blanks, a line end.
+pub fn line_at(values: &[u8; 256], text: &[u8], at: usize, short: bool) -> Line
     requires { ⌜ DecodeTable (now values) × (at ≤ length (now text)) ⌝ }
     ensures { λ r. ⌜ IsLine (now (text .entry)) at (r .characters) (r .blanks) (r .end) ⌝ }
 {
-    let characters = run_end(values, text, at, text.len());
+    let characters = run_end(values, text, at, text.len(), short);
     let blanks = blanks_end(text, characters);
     Line {
         characters,

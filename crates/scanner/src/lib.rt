@@ -197,7 +197,7 @@ fn tally_line(tally: Tally, characters: usize, others: usize) -> Tally
 }
 
 // Lines of any length, with blanks at their ends, and a run of characters behind them, in the phases in which they may stand. It
-// goes on behind blanks within a line where characters may follow them.
+// goes on behind blanks within a line where characters may follow them. Behind a short run another one is likely.
 fn advance_lines(
     values: &[u8; 256],
     text: &[u8],
@@ -215,12 +215,14 @@ fn advance_lines(
     let mut at = from;
     let mut state = first;
     let mut tally = counted;
+    let mut short = false;
     while at < text.len() {
-        let line = runs::line_at(values, text, at);
+        let line = runs::line_at(values, text, at, short);
         let end = line.end;
         if line.characters == at {
             return Position { at, state, tally };
         }
+        short = line.characters - at < LINE_CHARS;
         let told = tally_line(tally, line.characters - at, end - line.characters);
         if line.blanks < end {
             at = end;

@@ -16,8 +16,8 @@ blanks-end-requires c κs = search needs
 line-end-at-requires : tie.Need-line-end-at-requires
 line-end-at-requires c κs = search needs
 
-add-t7 : tie.Need-add-t7
-add-t7 c =
+add-t8 : tie.Need-add-t8
+add-t8 c =
     let inside = line-end-inside (c .line-end-at .ensures) (omega (arith, c .before .blanks-end .ensures)) in
     record { fits = omega (arith, inside, c .before .before .before .before .good) }
 
@@ -38,4 +38,4 @@ returns c =
 
 pub line-at-spec : {M : Type 1} → statement M
 line-at-spec =
-    tie.close (tie.spec run-end-requires blanks-end-requires line-end-at-requires add-t7 returns)
+    tie.close (tie.spec run-end-requires blanks-end-requires line-end-at-requires add-t8 returns)
