@@ -19,6 +19,7 @@ use Rattle.base64.proofs.Alphabet.{value-char, char-value, value-outsid
 abbrev pub tested : List ℕ → Bool
 tested table = below (λ c. eqb (getD table c 0) (valueOf c)) 256
 
+-- A character is a byte.
 char-octet : (v : ℕ) → Sextet v → Octet (charOf v)
 unfolding alphabet
 char-octet v h = ltb→lt _ _ (below-at (λ k. ltb (charOf k) 256) 64 tt v h)
