@@ -1,6 +1,8 @@
 -- Facts about the files of specs/, under the same names. Assumes nothing.
 pub mod Runs
 pub mod Marks
+pub mod LineEnds
+pub mod Styles
 pub mod Grammars
 pub mod Message
 pub mod Counts

@@ -1,5 +1,6 @@
 -- The grammars of RFC 7468 text, in the order of the requirements. Assumes nothing.
 pub mod Marks
+pub mod LineEnds
 pub mod Grammars
 pub mod Message
 pub mod Bundle

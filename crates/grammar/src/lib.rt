@@ -5,6 +5,7 @@ ghost use Prim.Native.Nat.{_+_, _^_, _<_};
 ghost use lib.ListN.{length};
 ghost use Rattle.grammar.specs.Marks.{begin, end};
 ghost use Rattle.grammar.specs.Grammars.{grammarOf};
+ghost use Rattle.grammar.specs.LineEnds.{lineEndingOf, styleNumber};
 
 // The marks, by their bytes; the alphabet and the pad are those of base 64.
 pub const HT: u8 = b'\t';
@@ -70,6 +71,69 @@ impl Grammar {
             Self::STANDARD => Numbered::Known(Grammar::Standard),
             Self::STRICT => Numbered::Known(Grammar::Strict),
             _ => Numbered::Unknown,
+        }
+    }
+}
+
+// A kind of line end: LF, CRLF, or CR with no LF behind it.
+pub enum LineEnding {
+    Lf,
+    CrLf,
+    Cr,
+}
+
+// The line ends of a text together: none, all of one kind, or of several.
+pub enum LineStyle {
+    NoLineEnd,
+    Only(LineEnding),
+    Mixed,
+}
+
+impl LineStyle {
+    // They are told by number: that of the one kind, or one of these.
+    pub const NO_LINE_END: u32 = 0;
+
+    pub const MIXED: u32 = 4;
+
+    // Its number.
+    pub fn number(self) -> u32
+        ensures { λ r. ⌜ r ≡ styleNumber self ⌝ }
+    {
+        match self {
+            LineStyle::NoLineEnd => Self::NO_LINE_END,
+            LineStyle::Only(ending) => match ending {
+                LineEnding::Lf => LineEnding::LF,
+                LineEnding::CrLf => LineEnding::CRLF,
+                LineEnding::Cr => LineEnding::CR,
+            },
+            LineStyle::Mixed => Self::MIXED,
+        }
+    }
+}
+
+// The kind of line end that a caller's number asks for.
+pub enum NumberedEnding {
+    Known(LineEnding),
+    Unknown,
+}
+
+impl LineEnding {
+    // They are called by number.
+    pub const LF: u32 = 1;
+
+    pub const CRLF: u32 = 2;
+
+    pub const CR: u32 = 3;
+
+    // Any number may come in.
+    pub fn from_number(number: u32) -> NumberedEnding
+        ensures { λ r. ⌜ r ≡ lineEndingOf number ⌝ }
+    {
+        match number {
+            Self::LF => NumberedEnding::Known(LineEnding::Lf),
+            Self::CRLF => NumberedEnding::Known(LineEnding::CrLf),
+            Self::CR => NumberedEnding::Known(LineEnding::Cr),
+            _ => NumberedEnding::Unknown,
         }
     }
 }
