@@ -16,10 +16,12 @@ use Rattle.grammar.specs.Grammars.{grammarOf}
 use Rattle.grammar.specs.declared.Grammar.{Grammar}
 use Rattle.grammar.specs.declared.Numbered.{Numbered}
 use Rattle.grammar.specs.declared.Numbered.the-variants.{Known, Unknown}
+use Rattle.grammar.specs.declared.LineStyle.{LineStyle}
 use Rattle.machine.proofs.Machine.{start, later, accepting}
 use Rattle.machine.specs.declared.State.{State}
 use Rattle.reading.specs.Answers.{byteCount}
 use Rattle.reading.specs.Limits.{textLimit, labelLimit}
+use Rattle.reading.specs.Ends.{countedStyle}
 use Rattle.reading.specs.Read.{layoutOf, labelsAgree, countsFit, spareClear, judgedParts}
 use Rattle.reading.specs.declared.Judgement.{Judgement}
 use Rattle.reading.specs.declared.Judgement.the-variants as judgement
@@ -39,25 +41,25 @@ use Rattle.indexing.proofs.Turns.{walk-on, walk-end}
 -- ---- What a judgement that passed tells
 
 -- A test whose failure refuses was passed,
-passed : (b : Bool) (j : Judgement) (r : Refusal) (l : Layout) (size : ByteCount) → cond b j (judgement.Refused r) ≡ judgement.Sound l size
-    → (b ≡ true) × (j ≡ judgement.Sound l size)
-passed true j r l size e = (refl, e)
-passed false j r l size e = (cc, cc)
+passed : (b : Bool) (j : Judgement) (r : Refusal) (l : Layout) (size : ByteCount) (style : LineStyle) → cond b j (judgement.Refused r) ≡ judgement.Sound l size style
+    → (b ≡ true) × (j ≡ judgement.Sound l size style)
+passed true j r l size style e = (refl, e)
+passed false j r l size style e = (cc, cc)
 
 -- and one whose success refuses was not.
-failed : (b : Bool) (j : Judgement) (r : Refusal) (l : Layout) (size : ByteCount) → cond b (judgement.Refused r) j ≡ judgement.Sound l size
-    → j ≡ judgement.Sound l size
-failed true j r l size e = cc
-failed false j r l size e = e
+failed : (b : Bool) (j : Judgement) (r : Refusal) (l : Layout) (size : ByteCount) (style : LineStyle) → cond b (judgement.Refused r) j ≡ judgement.Sound l size style
+    → j ≡ judgement.Sound l size style
+failed true j r l size style e = cc
+failed false j r l size style e = e
 
 -- Parts that passed are judged by the layout and the tally that they were given.
-parts-sound : (g : Grammar) (text : List ℕ) (m : Layout) (t : Tally) (l : Layout) (size : ByteCount) → judgedParts g text m t ≡ judgement.Sound l size
-    → judgement.Sound m (byteCount (t .characters * 3 / 4)) ≡ judgement.Sound l size
-parts-sound g text m t l size e =
-    let a = failed (ltb labelLimit (m .opened .length)) _ _ l size e in
-    let b = passed (labelsAgree text m) _ _ l size a in
-    let c = passed (countsFit (t .characters) (t .pads)) _ _ l size (b .1) in
-    passed (spareClear g text m t) _ _ l size (c .1) .1
+parts-sound : (g : Grammar) (text : List ℕ) (m : Layout) (t : Tally) (l : Layout) (size : ByteCount) (style : LineStyle) → judgedParts g text m t ≡ judgement.Sound l size style
+    → judgement.Sound m (byteCount (t .characters * 3 / 4)) (countedStyle (t .ends)) ≡ judgement.Sound l size style
+parts-sound g text m t l size style e =
+    let a = failed (ltb labelLimit (m .opened .length)) _ _ l size style e in
+    let b = passed (labelsAgree text m) _ _ l size style a in
+    let c = passed (countsFit (t .characters) (t .pads)) _ _ l size style (b .1) in
+    passed (spareClear g text m t) _ _ l size style (c .1) .1
 
 -- The scan of a message that passed: it accepts, and the layout and the size come from its tally.
 record SoundScan (from : ℕ) (s : Scan) (l : Layout) (size : ByteCount) : Type 0 where
@@ -65,20 +67,20 @@ record SoundScan (from : ℕ) (s : Scan) (l : Layout) (size : ByteCount) : Type 
   laid : l ≡ layoutOf from (s .tally)
   sized : size ≡ byteCount (s .tally .characters * 3 / 4)
 
-sound-scan : (g : Grammar) (text : List ℕ) (from : ℕ) (s : Scan) (l : Layout) (size : ByteCount) → judgedMessage g text from s ≡ judgement.Sound l size
+sound-scan : (g : Grammar) (text : List ℕ) (from : ℕ) (s : Scan) (l : Layout) (size : ByteCount) (style : LineStyle) → judgedMessage g text from s ≡ judgement.Sound l size style
     → SoundScan from s l size
-sound-scan g text from s l size e =
-    let p = passed (accepting (s .phase)) _ _ l size e in
-    let q : judgement.Sound (layoutOf from (s .tally)) (byteCount (s .tally .characters * 3 / 4)) ≡ judgement.Sound l size = parts-sound g text (layoutOf from (s .tally)) (s .tally) l size (p .1) in
+sound-scan g text from s l size style e =
+    let p = passed (accepting (s .phase)) _ _ l size style e in
+    let q : judgement.Sound (layoutOf from (s .tally)) (byteCount (s .tally .characters * 3 / 4)) (countedStyle (s .tally .ends)) ≡ judgement.Sound l size style = parts-sound g text (layoutOf from (s .tally)) (s .tally) l size style (p .1) in
     record { accepted = p .0; laid = cc; sized = cc }
 
 -- The numbers of a message that passed can be held by a table, and the scan read a byte and stayed within the text.
 pub sound-holdable : (g : Grammar) (text : List ℕ) (from : ℕ) (first : State) → StartState g first → from ≤ length text → length text ≤ textLimit
-    → (l : Layout) (size : ByteCount) → judgedMessage g text from (scanFrom g text from first) ≡ judgement.Sound l size
+    → (l : Layout) (size : ByteCount) (style : LineStyle) → judgedMessage g text from (scanFrom g text from first) ≡ judgement.Sound l size style
     → Holdable (entryIn from ((scanFrom g text from first) .length) l size)
     × (0 < (scanFrom g text from first) .length) × (from + (scanFrom g text from first) .length ≤ length text)
-sound-holdable g text from first i w h l size e =
-    let s : SoundScan from (scanFrom g text from first) l size = sound-scan g text from _ l size e in
+sound-holdable g text from first i w h l size style e =
+    let s : SoundScan from (scanFrom g text from first) l size = sound-scan g text from _ l size style e in
     let m : MessageFits text from (scanFrom g text from first) = message-fits g text from first i w (s .accepted) in
     rw (s .laid, s .sized) (omega (arith, m))
 
@@ -176,10 +178,10 @@ reached-on {g} {text} {first} {at} r h j e =
 
 -- A message that passed is entered, and the walk goes on behind it.
 pub reached-next : {g : Grammar} {text : List ℕ} {first : State} {at count : ℕ} {table : List ℕ} → Reached g text first at count table → at < length text
-    → (l : Layout) (size : ByteCount) → judgedMessage g text at (scanFrom g text at first) ≡ judgement.Sound l size
+    → (l : Layout) (size : ByteCount) (style : LineStyle) → judgedMessage g text at (scanFrom g text at first) ≡ judgement.Sound l size style
     → Reached g text later (at + (scanFrom g text at first) .length) (count + 1) (entered table count (entryIn at ((scanFrom g text at first) .length) l size))
-reached-next {g} {text} {first} {at} {count} {table} r h l size e =
-    let s : SoundScan at (scanFrom g text at first) l size = sound-scan g text at _ l size e in
+reached-next {g} {text} {first} {at} {count} {table} r h l size style e =
+    let s : SoundScan at (scanFrom g text at first) l size = sound-scan g text at _ l size style e in
     let m : MessageFits text at (scanFrom g text at first) = message-fits g text at first (r .isStart) (r .within) (s .accepted) in
     let k : Entry = entryIn at ((scanFrom g text at first) .length) l size in
     record {
@@ -231,7 +233,7 @@ walk-most (suc most) g text at first es fs e =
     go true (judgement.Refused r) e ih =
         let z : _≡_ {A = ℕ} 0 1 = cc in
         omega arith
-    go true (judgement.Sound l size) e ih =
+    go true (judgement.Sound l size style) e ih =
         let k : Entry = entryIn at ((scanFrom g text at first) .length) l size in
         omega (arith, ih k e, length-append es (k ∷ []))
     go false j e ih =

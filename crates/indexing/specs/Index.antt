@@ -99,7 +99,7 @@ pub data Walk : Type 0 where
 
 abbrev pub onward : Judgement → ℕ → ℕ → (Entry → Walk) → Walk
 onward (judgement.Refused r) from n next = fault r
-onward (judgement.Sound l size) from n next = next (entryIn from n l size)
+onward (judgement.Sound l size style) from n next = next (entryIn from n l size)
 
 -- From an offset on, behind the messages that were found before. A message has a byte at least, so a text has at most as
 -- many messages as bytes.

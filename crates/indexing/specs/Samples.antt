@@ -6,7 +6,7 @@ use lib.ListN.{length, replicate}
 use Rattle.base64.specs.Lists.{All}
 use Rattle.grammar.specs.Samples.{beginA, endB, around, M, unendedM}
 use Rattle.reading.specs.Answers.{offset}
-use Rattle.reading.specs.Samples.{Row, RowHolds, row}
+use Rattle.reading.specs.Rows.{Row, RowHolds, row}
 use Rattle.reading.specs.declared.Refusal.{Refusal}
 use Rattle.reading.specs.declared.Refusal.the-variants.{BadOpening, BadClosing, LabelsDiffer, SpareBits}
 use Rattle.indexing.specs.Answers.{tableSize}

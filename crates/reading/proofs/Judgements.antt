@@ -26,6 +26,7 @@ use Rattle.reading.specs.Answers.{offset, byteCount}
 use Rattle.reading.specs.Meaning as rows
 use Rattle.reading.specs.Meaning.{labelStart, bodyStart, closingStart, closingLabelStart, Sound, GrammarFails, MessageFails}
 use Rattle.reading.specs.Data.{sameBytes, spareOf}
+use Rattle.reading.specs.Ends.{endsIn, countedStyle}
 use Rattle.reading.specs.Read.{layoutOf, grammarRefusal, countsFit, spareAsked, spareClear, judgedParts}
 use Rattle.reading.specs.declared.Judgement.{Judgement}
 use Rattle.reading.specs.declared.Judgement.the-variants as judgement
@@ -41,8 +42,8 @@ use Rattle.reading.proofs.Checks.{counts-fit-true, counts-fit-test}
 abbrev spareTest : Grammar → List ℕ → Bool
 spareTest g cs = spareAsked g (eqb (spareBits (valuesOf cs)) 0)
 
-abbrev soundReading : ℕ → Reading → Judgement
-soundReading from r = judgement.Sound (readingLayout from r) (byteCount (length (dataOf r)))
+abbrev pub soundReading : ℕ → Reading → Judgement
+soundReading from r = judgement.Sound (readingLayout from r) (byteCount (length (dataOf r))) (countedStyle (endsIn (textOf r)))
 
 abbrev pub judgedReading : Grammar → ℕ → Reading → Judgement
 judgedReading g from r =
@@ -76,7 +77,7 @@ pub parts-judged : (g : Grammar) (front : List ℕ) (r : Reading) (back : List �
     → judgedParts g (front ++ (textOf r ++ back)) (layoutOf (length front) (tallyOf r)) (tallyOf r) ≡ judgedReading g (length front) r
 parts-judged g front r back =
     ap (λ l. judgedParts g (front ++ (textOf r ++ back)) l (tallyOf r))
-    (layout-reading (length front) r (length (characters (r .body))) (padCount (r .body)) (lastIndex (r .body)))
+    (layout-reading (length front) r (length (characters (r .body))) (padCount (r .body)) (lastIndex (r .body)) (endsIn (textOf r)))
     ∙ rw (label-part front r back, closing-label-part front r back, spare-clear-test g front r back, sym (length-decode (characters (r .body))))
 
 -- ---- What a judgement of a reading means

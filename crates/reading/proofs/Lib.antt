@@ -8,4 +8,5 @@ pub mod Whole
 pub mod Meaning
 pub mod Results
 pub mod Scans
+pub mod Ends
 pub mod Samples

@@ -1,6 +1,5 @@
 -- What the calls' definitions answer is what the requirements' rows say, and the rows leave one answer only. Assumes nothing.
 use mathlib.Core.Path.{_≡_, refl, sym, ap, _∙_, subst}
-use mathlib.Core.Logic.{_≢_}
 use mathlib.Core.Bool.{Bool, true, false, true≢false}
 use mathlib.Core.List.{List, [], _++_, append-nil}
 use Prim.Native.Nat.{ℕ, _+_, _-_, _≤_, _<_}
@@ -11,22 +10,26 @@ use native.Mathlib.Nat.{zero-add}
 use borrow.Author.Tests.{ltb-true, ltb-false, lt-ltb, le-ltb}
 use Rattle.base64.specs.Groups.{decode}
 use Rattle.base64.specs.declared.ByteCount.{ByteCount}
-use Rattle.grammar.specs.Marks.{opening}
+use Rattle.grammar.specs.LineEnds.{LineEnds, styleOf}
 use Rattle.grammar.specs.Grammars.{grammarOf}
 use Rattle.grammar.specs.Message.{Reading, textOf, characters, dataOf}
 use Rattle.grammar.specs.Starts.{LongestStart}
+use Rattle.grammar.specs.declared.LineEnding.{LineEnding}
 use Rattle.grammar.specs.declared.Grammar.{Grammar}
 use Rattle.grammar.specs.declared.Grammar.the-variants as grammar
 use Rattle.grammar.specs.declared.Numbered.{Numbered}
 use Rattle.grammar.specs.declared.Numbered.the-variants.{Known, Unknown}
+use Rattle.grammar.proofs.LineEnds.{some-ends}
 use Rattle.grammar.proofs.Message.{reading-unique}
+use Rattle.grammar.specs.declared.LineStyle.{LineStyle}
 use Rattle.machine.proofs.Machine.{partOf}
 use Rattle.machine.specs.declared.Part.{Part}
 use Rattle.machine.specs.declared.Part.the-variants as part
 use Rattle.reading.specs.Limits.{textLimit}
-use Rattle.reading.specs.Answers.{offset, byteCount}
+use Rattle.reading.specs.Answers.{byteCount}
 use Rattle.reading.specs.Meaning as rows
 use Rattle.reading.specs.Meaning.{labelStart, Admitted, Parsed, Broken, Passed, Refuses, foundOf, Reads, HandsBack}
+use Rattle.reading.specs.Ends.{endsIn, countedStyle}
 use Rattle.reading.specs.Scan.{tally}
 use Rattle.reading.specs.Read.{spanned, layoutOf, Lies, grammarRefusal, isWhole, judgedParts, judgedBy, judgeOf, foundIn, answered, readOf, written, outputOf, labelIn, labelOf}
 use Rattle.reading.specs.declared.Judgement.{Judgement}
@@ -35,10 +38,11 @@ use Rattle.reading.specs.declared.Layout.{Layout}
 use Rattle.reading.specs.declared.ReadAnswer.{ReadAnswer}
 use Rattle.reading.specs.declared.ReadAnswer.the-variants as answer
 use Rattle.reading.specs.declared.Refusal.{Refusal}
+use Rattle.reading.proofs.Ends.{ends-found}
 use Rattle.reading.proofs.Tallies.{tallyOf}
 use Rattle.reading.proofs.Places.{TallyFits, reading-fits, readingLayout, label-part, body-part, text-length, opening-length, closing-length}
 use Rattle.reading.proofs.Judgements as judgements
-use Rattle.reading.proofs.Judgements.{judgedReading, parts-judged, Verdict, reading-judged, fails-judged, sound-judged, Tells, part-fails, fails-part}
+use Rattle.reading.proofs.Judgements.{soundReading, judgedReading, parts-judged, Verdict, reading-judged, fails-judged, sound-judged, Tells, part-fails, fails-part}
 use Rattle.reading.proofs.Whole.{scanned, WholeReading, whole-reading, parse-whole, scan-longest, scan-tells}
 
 -- ---- The judgement of a text that has a reading
@@ -66,8 +70,7 @@ judge-broken text number g a w = ap (λ n. judgedBy n text) (a .known) ∙ rw (l
 -- ---- What each judgement means
 
 pub data Judged (text : List ℕ) (number : ℕ) : Judgement → Type 0 where
-  sound : (g : Grammar) (r : Reading) → Passed text number g r
-      → Judged text number (judgement.Sound (readingLayout 0 r) (byteCount (length (dataOf r))))
+  sound : (g : Grammar) (r : Reading) → Passed text number g r → Judged text number (soundReading 0 r)
   refused : {refusal : Refusal} → Refuses text number refusal → Judged text number (judgement.Refused refusal)
 
 verdict-judged : (text : List ℕ) (number : ℕ) (g : Grammar) (r : Reading) → Parsed text number g r → (j : Judgement) → Verdict g 0 r j → Judged text number j
@@ -137,7 +140,7 @@ refuses-judge text number refusal (rows.grammarFails g n b f) =
 refuses-judge text number refusal (rows.messageFails g r p f) = judge-reading text number g r p ∙ fails-judged g 0 r refusal f
 
 pub passed-judge : (text : List ℕ) (number : ℕ) (g : Grammar) (r : Reading) → Passed text number g r
-    → judgeOf text number ≡ judgement.Sound (readingLayout 0 r) (byteCount (length (dataOf r)))
+    → judgeOf text number ≡ soundReading 0 r
 passed-judge text number g r p = judge-reading text number g r (p .parsed) ∙ sound-judged g 0 r (p .sound)
 
 -- ---- The calls
@@ -152,14 +155,16 @@ found-in : (r : Reading) → foundIn (readingLayout 0 r) (byteCount (length (dat
 found-in r = rw zero-add
 
 -- The answer and the output of a judgement that passed.
-passed-answer : (text : List ℕ) (r : Reading) (room : ℕ) → text ≡ textOf r → length (dataOf r) ≤ room
-    → (answered (judgement.Sound (readingLayout 0 r) (byteCount (length (dataOf r)))) room ≡ answer.Accepted (foundOf r))
-    × (written (judgement.Sound (readingLayout 0 r) (byteCount (length (dataOf r)))) text room ≡ dataOf r ++ replicate (room - length (dataOf r)) 0)
-passed-answer text r room e h = (rw (le-ltb room (length (dataOf r)) h) (ap answer.Accepted (found-in r)), rw (le-ltb room (length (dataOf r)) h, data-in text r e))
+passed-answer : (text : List ℕ) (r : Reading) (room : ℕ) → text ≡ textOf r → length (dataOf r) ≤ room → (ss : List LineEnding) → LineEnds text ss
+    → (answered (soundReading 0 r) room ≡ answer.Accepted (foundOf r) (styleOf ss))
+    × (written (soundReading 0 r) text room ≡ dataOf r ++ replicate (room - length (dataOf r)) 0)
+passed-answer text r room e h ss l =
+    let found : countedStyle (endsIn (textOf r)) ≡ styleOf ss = ap (λ t. countedStyle (endsIn t)) (sym e) ∙ ends-found l in
+    (rw (le-ltb room (length (dataOf r)) h) (λ i. answer.Accepted (found-in r i) (found i)), rw (le-ltb room (length (dataOf r)) h, data-in text r e))
 
 small-answer : (text : List ℕ) (r : Reading) (room : ℕ) → room < length (dataOf r)
-    → (answered (judgement.Sound (readingLayout 0 r) (byteCount (length (dataOf r)))) room ≡ answer.OutputTooSmall (foundOf r))
-    × (written (judgement.Sound (readingLayout 0 r) (byteCount (length (dataOf r)))) text room ≡ replicate room 0)
+    → (answered (soundReading 0 r) room ≡ answer.OutputTooSmall (foundOf r))
+    × (written (soundReading 0 r) text room ≡ replicate room 0)
 small-answer text r room h = (rw (lt-ltb room (length (dataOf r)) h) (ap answer.OutputTooSmall (found-in r)), rw (lt-ltb room (length (dataOf r)) h))
 
 -- What `read` is defined to answer and to write is what the rows say.
@@ -167,13 +172,14 @@ pub read-means : (text : List ℕ) (number room : ℕ) → Reads text number roo
 read-means text number room = go (judgeOf text number) (judge-means text number)
   where
     fits : (g : Grammar) (r : Reading) → Passed text number g r → (b : Bool) → ltb room (length (dataOf r)) ≡ b
-        → Reads text number room (answered (judgement.Sound (readingLayout 0 r) (byteCount (length (dataOf r)))) room) (written (judgement.Sound (readingLayout 0 r) (byteCount (length (dataOf r)))) text room)
+        → Reads text number room (answered (soundReading 0 r) room) (written (soundReading 0 r) text room)
     fits g r p true e =
         let w = small-answer text r room (ltb-true _ _ e) in
         rw (w .0, w .1) (rows.outputTooSmall g r p (ltb-true _ _ e))
     fits g r p false e =
-        let w = passed-answer text r room (p .parsed .joined) (ltb-false _ _ e) in
-        rw (w .0, w .1) (rows.accepted g r p (ltb-false _ _ e))
+        let (ss, l) = some-ends text in
+        let w = passed-answer text r room (p .parsed .joined) (ltb-false _ _ e) ss l in
+        rw (w .0, w .1) (rows.accepted g r p (ltb-false _ _ e) ss l)
 
     go : (j : Judgement) → Judged text number j → Reads text number room (answered j room) (written j text room)
     go j (sound g r p) = fits g r p (ltb room (length (dataOf r))) refl
@@ -182,8 +188,8 @@ read-means text number room = go (judgeOf text number) (judge-means text number)
 -- The rows leave no other answer and no other output.
 pub reads-read : (text : List ℕ) (number room : ℕ) (a : ReadAnswer) (o : List ℕ) → Reads text number room a o
     → (a ≡ readOf text number room) × (o ≡ outputOf text number room)
-reads-read text number room a o (rows.accepted g r p h) =
-    let w = passed-answer text r room (p .parsed .joined) h in
+reads-read text number room a o (rows.accepted g r p h ss l) =
+    let w = passed-answer text r room (p .parsed .joined) h ss l in
     let j = passed-judge text number g r p in
     (sym (ap (λ x. answered x room) j ∙ w .0), sym (ap (λ x. written x text room) j ∙ w .1))
 reads-read text number room a o (rows.refused {refusal} f) =
@@ -223,13 +229,13 @@ hands-back-label text number l (rows.none {refusal} f) = sym (ap (λ j. labelIn 
 
 -- ---- What the code has to know of a judgement that passed
 
-pub sound-fits : (text : List ℕ) (number : ℕ) (l : Layout) (size : ByteCount) → judgeOf text number ≡ judgement.Sound l size
+pub sound-fits : (text : List ℕ) (number : ℕ) (l : Layout) (size : ByteCount) (style : LineStyle) → judgeOf text number ≡ judgement.Sound l size style
     → Lies (length text) l × (l .body .at .0 + l .body .length ≤ length text) × (size .0 ≡ length (decode (characters (spanned text (l .body)))))
-sound-fits text number l size e = go l size (subst (Judged text number) e (judge-means text number))
+sound-fits text number l size style e = go l size style (subst (Judged text number) e (judge-means text number))
   where
-    go : (l : Layout) (size : ByteCount) → Judged text number (judgement.Sound l size)
+    go : (l : Layout) (size : ByteCount) (style : LineStyle) → Judged text number (judgement.Sound l size style)
         → Lies (length text) l × (l .body .at .0 + l .body .length ≤ length text) × (size .0 ≡ length (decode (characters (spanned text (l .body)))))
-    go l size (sound g r p) =
+    go l size style (sound g r p) =
         let n : length text ≡ length (textOf r) = ap length (p .parsed .joined) in
         let t = text-length r in
         let o = opening-length (r .openingLabel) in
@@ -237,11 +243,11 @@ sound-fits text number l size e = go l size (subst (Judged text number) e (judge
         (omega arith, omega arith, ap length (sym (data-in text r (p .parsed .joined))))
 
 -- The same by the grammar, whichever number it has.
-pub known-fits : (g : Grammar) (text : List ℕ) (l : Layout) (size : ByteCount) → judgedBy (Known g) text ≡ judgement.Sound l size
+pub known-fits : (g : Grammar) (text : List ℕ) (l : Layout) (size : ByteCount) (style : LineStyle) → judgedBy (Known g) text ≡ judgement.Sound l size style
     → Lies (length text) l × (l .body .at .0 + l .body .length ≤ length text) × (size .0 ≡ length (decode (characters (spanned text (l .body)))))
-known-fits grammar.Lax text l size e = sound-fits text 1 l size e
-known-fits grammar.Standard text l size e = sound-fits text 2 l size e
-known-fits grammar.Strict text l size e = sound-fits text 3 l size e
+known-fits grammar.Lax text l size style e = sound-fits text 1 l size style e
+known-fits grammar.Standard text l size style e = sound-fits text 2 l size style e
+known-fits grammar.Strict text l size style e = sound-fits text 3 l size style e
 
 -- What the code has to know of a scan that has read a whole text of the grammar.
 pub whole-fits : (g : Grammar) (text : List ℕ) → isWhole (scanned g text) (length text) ≡ true → TallyFits (length text) ((scanned g text) .tally)

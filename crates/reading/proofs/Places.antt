@@ -12,6 +12,7 @@ use Rattle.reading.specs.Meaning.{labelStart, bodyStart, closingStart, c
 use Rattle.reading.specs.Scan.{tally}
 use Rattle.reading.specs.Read.{spanned, layoutOf}
 use Rattle.reading.specs.declared.Layout.{Layout}
+use Rattle.reading.specs.declared.EndCounts.{EndCounts}
 use Rattle.reading.specs.declared.Tally.{Tally}
 use Rattle.reading.proofs.Tallies.{tallyOf, last-within, characters-short}
 
@@ -41,10 +42,10 @@ six-same : {a a′ b b′ c c′ d d′ e e′ f f′ h h′ : ℕ} → (a ≡ a
 six-same (p, q, r, s, t, u, v) = rw (p, q, r, s, t, u, v)
 
 -- The layout that the numbers of a reading's bytes give.
-pub layout-reading : (from : ℕ) (r : Reading) (n p k : ℕ)
-    → layoutOf from (tally (length (r .before)) (length (opening (r .openingLabel))) (length (r .body)) (length (closing (r .closingLabel))) n p k)
+pub layout-reading : (from : ℕ) (r : Reading) (n p k : ℕ) (e : EndCounts)
+    → layoutOf from (tally (length (r .before)) (length (opening (r .openingLabel))) (length (r .body)) (length (closing (r .closingLabel))) n p k e)
     ≡ readingLayout from r
-layout-reading from r n p k =
+layout-reading from r n p k e =
     let o : length (opening (r .openingLabel)) ≡ length (r .openingLabel) + 16 = opening-length (r .openingLabel) in
     let c : length (closing (r .closingLabel)) ≡ length (r .closingLabel) + 14 = closing-length (r .closingLabel) in
     six-same (omega arith)

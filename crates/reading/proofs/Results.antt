@@ -5,6 +5,8 @@ use Prim.Native.Nat.{ℕ, _-_, _≤_}
 use lib.ListN.{length, replicate}
 use native.Mathlib.Omega.{arith}
 use Rattle.grammar.specs.Message.{Reading, dataOf}
+use Rattle.grammar.specs.LineEnds.{LineEnds, styleOf}
+use Rattle.grammar.specs.declared.LineEnding.{LineEnding}
 use Rattle.grammar.specs.declared.Grammar.{Grammar}
 use Rattle.reading.specs.Answers.{refusalNumber, numberOf}
 use Rattle.reading.specs.Meaning as rows
@@ -30,9 +32,10 @@ refusal-some (SpareBits at) e = omega (arith, e)
 
 -- Given room, the answer and the output of a text that passed, and its label.
 pub passed-read : (text : List ℕ) (number room : ℕ) (g : Grammar) (r : Reading) → Passed text number g r → length (dataOf r) ≤ room
-    → (readOf text number room ≡ Accepted (foundOf r)) × (outputOf text number room ≡ dataOf r ++ replicate (room - length (dataOf r)) 0)
-passed-read text number room g r p h =
-    let same = reads-read text number room _ _ (rows.accepted g r p h) in
+    → (ss : List LineEnding) → LineEnds text ss
+    → (readOf text number room ≡ Accepted (foundOf r) (styleOf ss)) × (outputOf text number room ≡ dataOf r ++ replicate (room - length (dataOf r)) 0)
+passed-read text number room g r p h ss l =
+    let same = reads-read text number room _ _ (rows.accepted g r p h ss l) in
     (sym (same .0), sym (same .1))
 
 pub passed-label : (text : List ℕ) (number : ℕ) (g : Grammar) (r : Reading) → Passed text number g r → labelOf text number ≡ r .openingLabel
@@ -49,6 +52,6 @@ pub zero-received : (text : List ℕ) (number room : ℕ) → numberOf (readOf t
 zero-received text number room z = go (readOf text number room) (outputOf text number room) (read-means text number room) z
   where
     go : (a : ReadAnswer) (o : List ℕ) → Reads text number room a o → numberOf a ≡ 0 → Received text number room
-    go a o (rows.accepted g r p h) z = record { grammar = g; reading = r; passed = p; fits = h }
+    go a o (rows.accepted g r p h ss l) z = record { grammar = g; reading = r; passed = p; fits = h }
     go a o (rows.refused {refusal} f) z = absurd (refusal-some refusal z)
     go a o (rows.outputTooSmall g r p h) z = absurd (omega (arith, z))

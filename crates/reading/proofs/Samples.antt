@@ -10,11 +10,16 @@ use Rattle.base64.specs.Lists.{All}
 use Rattle.base64.specs.Alphabet.{alphabet, placeIn, valueOf}
 use Rattle.base64.proofs.Tests.{both, both-left, both-right}
 use Rattle.grammar.specs.Grammars.{laxNumber, standardNumber, strictNumber}
+use Rattle.grammar.specs.LineEnds.{styleNumber}
 use Rattle.grammar.specs.Message.{characters, padCount}
-use Rattle.reading.specs.Answers.{offset, byteCount, span, refusalNumber, refusalPlace, numberOf, placeOf, sizeOf, labelOffsetOf, labelLengthOf}
+use Rattle.grammar.specs.declared.LineEnding.the-variants.{Lf, CrLf, Cr}
+use Rattle.grammar.specs.declared.LineStyle.{LineStyle}
+use Rattle.grammar.specs.declared.LineStyle.the-variants.{NoLineEnd, Only, Mixed}
+use Rattle.reading.specs.Answers.{offset, byteCount, span, refusalNumber, refusalPlace, numberOf, placeOf, sizeOf, labelOffsetOf, labelLengthOf, lineStyleOf}
 use Rattle.reading.specs.Data.{sameBytes}
 use Rattle.reading.specs.Read.{readOf, outputOf}
-use Rattle.reading.specs.Samples.{Outcome, room, answerFor, outputFor, Row, Holds, RowHolds, rows, splitPads, spareBits, Samples}
+use Rattle.reading.specs.Rows.{Row, RowHolds, Outcome, room, answerFor, outputFor, Holds}
+use Rattle.reading.specs.Samples.{rows, splitPads, spareBits, lineEnds, Samples}
 use Rattle.reading.specs.declared.Found.{Found}
 use Rattle.reading.specs.declared.ReadAnswer.{ReadAnswer}
 use Rattle.reading.specs.declared.ReadAnswer.the-variants.{Accepted, Refused, OutputTooSmall}
@@ -53,16 +58,26 @@ refusal-settled accepted small refuse (BadCounts at) = refl
 refusal-settled accepted small refuse (SpareBits at) = refl
 
 abbrev codeOf : ReadAnswer → List ℕ
-codeOf a = numberOf a ∷ placeOf a ∷ sizeOf a ∷ labelOffsetOf a ∷ labelLengthOf a ∷ []
+codeOf a = numberOf a ∷ placeOf a ∷ sizeOf a ∷ labelOffsetOf a ∷ labelLengthOf a ∷ lineStyleOf a ∷ []
 
 abbrev foundBy : List ℕ → Found
 foundBy l = record { size = byteCount (getD l 2 0); label = span (getD l 3 0) (getD l 4 0) }
 
+abbrev styleBy : ℕ → LineStyle
+styleBy n = cond (eqb n 0) NoLineEnd (cond (eqb n 1) (Only Lf) (cond (eqb n 2) (Only CrLf) (cond (eqb n 3) (Only Cr) Mixed)))
+
+style-coded : (e : LineStyle) → styleBy (styleNumber e) ≡ e
+style-coded NoLineEnd = refl
+style-coded (Only Lf) = refl
+style-coded (Only CrLf) = refl
+style-coded (Only Cr) = refl
+style-coded Mixed = refl
+
 abbrev answerBy : List ℕ → ReadAnswer
-answerBy l = settled (Accepted (foundBy l)) (OutputTooSmall (foundBy l)) Refused (getD l 0 0) (getD l 1 0)
+answerBy l = settled (Accepted (foundBy l) (styleBy (getD l 5 0))) (OutputTooSmall (foundBy l)) Refused (getD l 0 0) (getD l 1 0)
 
 answer-coded : (a : ReadAnswer) → answerBy (codeOf a) ≡ a
-answer-coded (Accepted found) = refl
+answer-coded (Accepted found style) = ap (Accepted found) (style-coded style)
 answer-coded (OutputTooSmall found) = refl
 answer-coded (Refused r) = refusal-settled _ _ Refused r
 
@@ -122,4 +137,4 @@ outcome-holds number text o t =
 
 pub samples : Samples
 unfolding valueOf placeIn alphabet characters padCount sameBytes
-samples = rows-hold outcomeTest Holds outcome-holds (rows ++ (splitPads ++ spareBits)) tt
+samples = rows-hold outcomeTest Holds outcome-holds (rows ++ (splitPads ++ (spareBits ++ lineEnds))) tt

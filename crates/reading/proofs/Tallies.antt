@@ -31,7 +31,9 @@ use Rattle.machine.proofs.Boundaries.{dead-stays}
 use Rattle.machine.proofs.Messages.{partsOf}
 use Rattle.reading.specs.Data.{spareOf}
 use Rattle.reading.specs.Meaning.{NoCharacter}
-use Rattle.reading.specs.Scan.{tally, noTally, characterTallied, padTallied, otherTallied, bodyTallied, tallied, stopped, scanOf}
+use Rattle.reading.specs.Ends.{endCounted, endsFrom, endsIn, noEnds}
+use Rattle.reading.specs.Scan.{tally, withEnds, byteTallied, noTally, characterTallied, padTallied, otherTallied, bodyTallied, tallied, stopped, scanOf}
+use Rattle.reading.specs.declared.EndCounts.{EndCounts}
 use Rattle.reading.specs.declared.Tally.{Tally}
 use Rattle.reading.specs.declared.Scan.{Scan}
 use Rattle.reading.proofs.Data.{spare-last}
@@ -164,7 +166,7 @@ tallyList (p ∷ ps) (c ∷ l) t = tallyList ps l (tallied p (kindOf c) t)
 abbrev pub tallyOf : Reading → Tally
 tallyOf r =
     tally (length (r .before)) (length (opening (r .openingLabel))) (length (r .body)) (length (closing (r .closingLabel)))
-    (length (characters (r .body))) (padCount (r .body)) (lastIndex (r .body))
+    (length (characters (r .body))) (padCount (r .body)) (lastIndex (r .body)) (endsIn (textOf r))
 
 -- One byte more, counted before the others.
 suc-moves : (n m : ℕ) → n + suc m ≡ n + 1 + m
@@ -215,8 +217,8 @@ counted c = go (ltb (valueOf c) radix) refl (eqb c pad) refl
 -- The body's bytes are tallied behind n of them, with a characters, p pads and the last character at k.
 abbrev BodyTally : (b o n a p k : ℕ) (y x : List ℕ) (ps : List Part) → Type 0
 BodyTally b o n a p k y x ps =
-    tallyList (replicate (length y) part.Body ++ ps) (y ++ x) (tally b o n 0 a p k)
-    ≡ tallyList ps x (tally b o (n + length y) 0 (a + length (characters y)) (p + padCount y) (lastFrom n k y))
+    tallyList (replicate (length y) part.Body ++ ps) (y ++ x) (tally b o n 0 a p k noEnds)
+    ≡ tallyList ps x (tally b o (n + length y) 0 (a + length (characters y)) (p + padCount y) (lastFrom n k y) noEnds)
 
 -- Its characters and pads are counted, and its last character is noted.
 body-tally : (b o n a p k : ℕ) (y x : List ℕ) (ps : List Part) → BodyTally b o n a p k y x ps
@@ -239,20 +241,74 @@ parts-tally : (w o y c a : List ℕ)
     ++ replicate (length a) part.After))))
     (w ++ (o ++ (y ++ (c ++ a))))
     noTally
-    ≡ tally (length w) (length o) (length y) (length c) (length (characters y)) (padCount y) (lastIndex y)
+    ≡ tally (length w) (length o) (length y) (length c) (length (characters y)) (padCount y) (lastIndex y) noEnds
 parts-tally w o y c a =
     simp (
-      part-tally part.Before (λ n. tally n 0 0 0 0 0 0) (λ k n. refl) 0 w,
-      part-tally part.Opening (λ n. tally (length w) n 0 0 0 0 0) (λ k n. refl) 0 o,
+      part-tally part.Before (λ n. tally n 0 0 0 0 0 0 noEnds) (λ k n. refl) 0 w,
+      part-tally part.Opening (λ n. tally (length w) n 0 0 0 0 0 noEnds) (λ k n. refl) 0 o,
       body-tally (length w) (length o) 0 0 0 0 y,
-      part-tally part.Closing (λ n. tally (length w) (length o) (length y) n (length (characters y)) (padCount y) (lastIndex y)) (λ k n. refl) 0 c,
+      part-tally part.Closing (λ n. tally (length w) (length o) (length y) n (length (characters y)) (padCount y) (lastIndex y) noEnds) (λ k n. refl) 0 c,
       after-tally,
       zero-add,
     )
 
+-- The tally of a reading's text, but for the line ends.
+tally-parts : (r : Reading) → tallyList (partsOf r) (textOf r) noTally ≡ withEnds (tallyOf r) noEnds
+tally-parts r = parts-tally (r .before) (opening (r .openingLabel)) (r .body) (closing (r .closingLabel)) (r .after)
+
+-- Line ends are counted beside the rest.
+body-ends : (k : Kind) (t : Tally) (e : EndCounts) → bodyTallied k (withEnds t e) ≡ withEnds (bodyTallied k t) e
+body-ends kind.Tab t e = refl
+body-ends kind.Space t e = refl
+body-ends kind.Cr t e = refl
+body-ends kind.Lf t e = refl
+body-ends kind.Feed t e = refl
+body-ends kind.Hyphen t e = refl
+body-ends kind.Alphabet t e = refl
+body-ends kind.Pad t e = refl
+body-ends kind.Mark t e = refl
+body-ends kind.Other t e = refl
+
+pub part-ends : (p : Part) (k : Kind) (t : Tally) (e : EndCounts) → tallied p k (withEnds t e) ≡ withEnds (tallied p k t) e
+part-ends part.Before k t e = refl
+part-ends part.Opening k t e = refl
+part-ends part.Body k t e = body-ends k t e
+part-ends part.Closing k t e = refl
+part-ends part.After k t e = refl
+
+list-ends : (ps : List Part) (l : List ℕ) (t : Tally) (e : EndCounts) → tallyList ps l (withEnds t e) ≡ withEnds (tallyList ps l t) e
+list-ends [] l t e = refl
+list-ends (p ∷ ps) [] t e = refl
+list-ends (p ∷ ps) (c ∷ l) t e = ap (tallyList ps l) (part-ends p (kindOf c) t e) ∙ list-ends ps l (tallied p (kindOf c) t) e
+
+-- The tally of what the machine reads.
+abbrev pub tallyRun : Grammar → State → List ℕ → Tally → Tally
+tallyRun g s [] t = t
+tallyRun g s (c ∷ l) t = tallyRun g (step g s c) l (byteTallied (s .cr) c (bytePart (partOf (s .phase)) (partOf ((step g s c) .phase))) t)
+
+-- Behind a byte the machine knows whether it was CR.
+step-cr : (g : Grammar) (s : State) (c : ℕ) → (step g s c) .cr ≡ eqb c CR
+step-cr g s c = go (s .cr) (eqb c LF) refl
+  where
+    go : (b d : Bool) → eqb c LF ≡ d → (step g (state (s .phase) b) c) .cr ≡ eqb c CR
+    go true true e = rw (e, eqb-true c LF e)
+    go true false e = rw e
+    go false d e = refl
+
+pub tally-run : (g : Grammar) (s : State) (l : List ℕ) (t : Tally) → tallyRun g s l t ≡ withEnds (tallyList (trace g s l) l t) (endsFrom (s .cr) (t .ends) l)
+unfolding endsFrom
+tally-run g s [] t = refl
+tally-run g s (c ∷ l) t =
+    let p : Part = bytePart (partOf (s .phase)) (partOf ((step g s c) .phase)) in
+    tally-run g (step g s c) l (byteTallied (s .cr) c p t)
+    ∙ rw (step-cr g s c) (ap (λ (u : Tally). withEnds u (endsFrom (eqb c CR) (endCounted (s .cr) c (t .ends)) l)) (list-ends (trace g (step g s c) l) l (tallied p (kindOf c) t) (endCounted (s .cr) c (t .ends))))
+
 -- The tally of a reading's text.
-pub tally-reading : (r : Reading) → tallyList (partsOf r) (textOf r) noTally ≡ tallyOf r
-tally-reading r = parts-tally (r .before) (opening (r .openingLabel)) (r .body) (closing (r .closingLabel)) (r .after)
+pub tally-reading : (g : Grammar) (s : State) (r : Reading) → s .cr ≡ false → trace g s (textOf r) ≡ partsOf r → tallyRun g s (textOf r) noTally ≡ tallyOf r
+tally-reading g s r e f =
+    tally-run g s (textOf r) noTally
+    ∙ (λ i. withEnds (tallyList (f i) (textOf r) noTally) (endsFrom (e i) noEnds (textOf r)))
+    ∙ ap (λ (u : Tally). withEnds u (endsIn (textOf r))) (tally-parts r)
 
 -- ---- where a scan stops
 
@@ -276,7 +332,7 @@ lived g s l h = go (dead (s .phase)) refl
 
 -- Where the machine lives at the end, the scan reads and tallies all.
 pub live-scan : (g : Grammar) (s : State) (n : ℕ) (t : Tally) (l : List ℕ) → dead ((run g s l) .phase) ≡ false
-    → scanOf g s n t l ≡ stopped (run g s l) (n + length l) (tallyList (trace g s l) l t)
+    → scanOf g s n t l ≡ stopped (run g s l) (n + length l) (tallyRun g s l t)
 live-scan g s n t [] h = ap (λ m. stopped s m t) (sym (add-zero n))
 live-scan g s n t (c ∷ l) h =
     let next : n + suc (length l) ≡ suc n + length l = omega arith in
@@ -289,7 +345,7 @@ pub record Stops (g : Grammar) (s : State) (n : ℕ) (t : Tally) (l : List ℕ) 
   pub within : bytes ≤ length l
   pub counted : r .length ≡ n + bytes
   pub reached : r .phase ≡ (run g s (take bytes l)) .phase
-  pub summed : r .tally ≡ tallyList (trace g s (take bytes l)) (take bytes l) t
+  pub summed : r .tally ≡ tallyRun g s (take bytes l) t
   pub lives : dead (r .phase) ≡ false
   pub ends : (bytes ≡ length l) ⊎ ((run g s (take (suc bytes) l)) .phase ≡ Dead)
 
@@ -300,7 +356,7 @@ scan-stops g s n t [] h =
 scan-stops g s n t (c ∷ l) h = go (dead ((step g s c) .phase)) refl _ (scan-stops g (step g s c) (suc n) _ l)
   where
     go : (d : Bool) → dead ((step g s c) .phase) ≡ d → (r : Scan)
-        → (dead ((step g s c) .phase) ≡ false → Stops g (step g s c) (suc n) (tallied (bytePart (partOf (s .phase)) (partOf ((step g s c) .phase))) (kindOf c) t) l r)
+        → (dead ((step g s c) .phase) ≡ false → Stops g (step g s c) (suc n) (byteTallied (s .cr) c (bytePart (partOf (s .phase)) (partOf ((step g s c) .phase))) t) l r)
         → Stops g s n t (c ∷ l) (cond d (stopped s n t) r)
     go true e r f =
         record { bytes = 0; within = omega arith; counted = sym (add-zero n); reached = refl; summed = refl; lives = h; ends = inr (dead-phase _ e) }

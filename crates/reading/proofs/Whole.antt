@@ -19,14 +19,14 @@ use Rattle.machine.specs.declared.Phase.{Phase}
 use Rattle.machine.specs.declared.Phase.the-variants as phase
 use Rattle.machine.proofs.Parts.{rank}
 use Rattle.machine.proofs.Messages as messages
-use Rattle.machine.proofs.Messages.{partsOf, accepted-parses, Progress, progress}
+use Rattle.machine.proofs.Messages.{accepted-parses, Progress, progress}
 use Rattle.machine.proofs.Acceptance.{parse-accepted}
 use Rattle.machine.proofs.Starts.{lives-longest, opening-rank, closing-rank}
 use Rattle.reading.specs.Scan.{noTally, stopped, scanOf}
 use Rattle.reading.specs.Read.{isWhole}
 use Rattle.reading.specs.declared.Scan.{Scan}
 use Rattle.reading.proofs.Judgements.{Tells}
-use Rattle.reading.proofs.Tallies.{tallyList, tallyOf, tally-reading, live-scan, Stops, scan-stops}
+use Rattle.reading.proofs.Tallies.{tallyRun, tallyOf, tally-reading, live-scan, Stops, scan-stops}
 
 -- The scan of a text from its start.
 abbrev pub scanned : Grammar → List ℕ → Scan
@@ -36,6 +36,11 @@ pub start-live : (g : Grammar) → dead ((start g) .phase) ≡ false
 start-live grammar.Lax = refl
 start-live grammar.Standard = refl
 start-live grammar.Strict = refl
+
+start-fresh : (g : Grammar) → (start g) .cr ≡ false
+start-fresh grammar.Lax = refl
+start-fresh grammar.Standard = refl
+start-fresh grammar.Strict = refl
 
 accepting-live : (p : Phase) → accepting p ≡ true → dead p ≡ false
 accepting-live phase.Before e = refl
@@ -73,9 +78,8 @@ message-read g text h =
       shape = p .shape;
       counted =
           stops g text .summed
-          ∙ ap (λ ps. tallyList ps (take k text) noTally) (p .parts)
-          ∙ ap (λ l. tallyList (partsOf (p .reading)) l noTally) (p .joined)
-          ∙ tally-reading (p .reading);
+          ∙ ap (λ l. tallyRun g (start g) l noTally) (p .joined)
+          ∙ tally-reading g (start g) (p .reading) (start-fresh g) (ap (trace g (start g)) (sym (p .joined)) ∙ p .parts);
       ends = omega (arith, stops g text .counted, stops g text .within, length-take k text, ap length (p .joined));
     }
 
@@ -112,7 +116,7 @@ whole-reading g text e =
 pub parse-whole : (g : Grammar) (text : List ℕ) → Parse g text → isWhole (scanned g text) (length text) ≡ true
 parse-whole g text p =
     let h : accepting ((run g (start g) text) .phase) ≡ true = parse-accepted g text p in
-    let s : scanned g text ≡ stopped (run g (start g) text) (0 + length text) (tallyList (trace g (start g) text) text noTally) = live-scan g (start g) 0 noTally text (accepting-live ((run g (start g) text) .phase) h) in
+    let s : scanned g text ≡ stopped (run g (start g) text) (0 + length text) (tallyRun g (start g) text noTally) = live-scan g (start g) 0 noTally text (accepting-live ((run g (start g) text) .phase) h) in
     rw (s, h, eq-eqb (0 + length text) (length text) (omega arith))
 
 -- ---- Any other text

@@ -1,6 +1,8 @@
--- The numbers a caller may get, with the place, the size and the label's position that each answer carries. Assumes nothing.
+-- The numbers a caller may get, with the place, the size, the label's position and the style of the line ends that each answer
+-- carries. Assumes nothing.
 use Prim.Native.Nat.{ℕ}
 use Rattle.base64.specs.declared.ByteCount.{ByteCount}
+use Rattle.grammar.specs.LineEnds.{styleNumber}
 use Rattle.grammar.specs.declared.TextOffset.{TextOffset}
 use Rattle.reading.specs.declared.Span.{Span}
 use Rattle.reading.specs.declared.Refusal.{Refusal}
@@ -42,28 +44,34 @@ refusalPlace (BadCounts at) = at .0
 refusalPlace (SpareBits at) = at .0
 
 abbrev pub numberOf : ReadAnswer → ℕ
-numberOf (Accepted found) = 0
+numberOf (Accepted found style) = 0
 numberOf (Refused refusal) = refusalNumber refusal
 numberOf (OutputTooSmall found) = 10
 
 abbrev pub placeOf : ReadAnswer → ℕ
-placeOf (Accepted found) = 0
+placeOf (Accepted found style) = 0
 placeOf (Refused refusal) = refusalPlace refusal
 placeOf (OutputTooSmall found) = 0
 
 -- What the result needs for 0 and 10, else zero.
 abbrev pub sizeOf : ReadAnswer → ℕ
-sizeOf (Accepted found) = found .size .0
+sizeOf (Accepted found style) = found .size .0
 sizeOf (Refused refusal) = 0
 sizeOf (OutputTooSmall found) = found .size .0
 
 -- The label's offset and length, both zero unless the answer is 0 or 10.
 abbrev pub labelOffsetOf : ReadAnswer → ℕ
-labelOffsetOf (Accepted found) = found .label .at .0
+labelOffsetOf (Accepted found style) = found .label .at .0
 labelOffsetOf (Refused refusal) = 0
 labelOffsetOf (OutputTooSmall found) = found .label .at .0
 
 abbrev pub labelLengthOf : ReadAnswer → ℕ
-labelLengthOf (Accepted found) = found .label .length
+labelLengthOf (Accepted found style) = found .label .length
 labelLengthOf (Refused refusal) = 0
 labelLengthOf (OutputTooSmall found) = found .label .length
+
+-- The number of the style of the line ends; zero unless the answer is 0. (K7; no number of the requirements had it.)
+abbrev pub lineStyleOf : ReadAnswer → ℕ
+lineStyleOf (Accepted found style) = styleNumber style
+lineStyleOf (Refused refusal) = 0
+lineStyleOf (OutputTooSmall found) = 0

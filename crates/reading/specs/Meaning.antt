@@ -9,10 +9,12 @@ use Rattle.base64.specs.Lists.{All}
 use Rattle.base64.specs.Alphabet.{AlphabetChar}
 use Rattle.base64.specs.Groups.{CountsFit}
 use Rattle.grammar.specs.Marks.{begin, end, opening}
+use Rattle.grammar.specs.LineEnds.{LineEnds, styleOf}
 use Rattle.grammar.specs.Grammars.{grammarOf}
 use Rattle.grammar.specs.Message as message
 use Rattle.grammar.specs.Message.{Reading, textOf, Shape, characters, padCount, Consistent, dataOf}
 use Rattle.grammar.specs.Starts.{Parse, LongestStart, HasOpening, HasClosing}
+use Rattle.grammar.specs.declared.LineEnding.{LineEnding}
 use Rattle.grammar.specs.declared.Grammar.{Grammar}
 use Rattle.grammar.specs.declared.Numbered.the-variants.{Known, Unknown}
 use Rattle.reading.specs.Limits.{textLimit, labelLimit}
@@ -113,12 +115,12 @@ foundOf r = record { size = byteCount (length (dataOf r)); label = span (labelSt
 
 -- The answer of the read call, and its output of `room` bytes.
 pub data Reads (text : List ℕ) (number room : ℕ) : ReadAnswer → List ℕ → Type 0 where
-  -- 0: accepted; the data, and then zeros
-  accepted : (g : Grammar) (r : Reading) → Passed text number g r → length (dataOf r) ≤ room
-      → Reads text number room (Accepted (foundOf r)) (dataOf r ++ replicate (room - length (dataOf r)) 0)
-  -- 1 to 9: zeros only
+  -- 0: accepted; the data, and then zeros; the style of all line ends of the text (K7)
+  accepted : (g : Grammar) (r : Reading) → Passed text number g r → length (dataOf r) ≤ room → (ss : List LineEnding) → LineEnds text ss
+      → Reads text number room (Accepted (foundOf r) (styleOf ss)) (dataOf r ++ replicate (room - length (dataOf r)) 0)
+  -- 1 to 9: zeros only, and no style
   refused : {refusal : Refusal} → Refuses text number refusal → Reads text number room (Refused refusal) (replicate room 0)
-  -- 10: lent output too small; zeros only
+  -- 10: lent output too small; zeros only, and no style
   outputTooSmall : (g : Grammar) (r : Reading) → Passed text number g r → room < length (dataOf r)
       → Reads text number room (OutputTooSmall (foundOf r)) (replicate room 0)
 

@@ -21,6 +21,7 @@ use Rattle.machine.specs.declared.Part.the-variants as part
 use Rattle.reading.specs.Answers.{offset, byteCount, span}
 use Rattle.reading.specs.Limits.{textLimit, labelLimit}
 use Rattle.reading.specs.Data.{sameBytes, spareOf}
+use Rattle.reading.specs.Ends.{countedStyle}
 use Rattle.reading.specs.Scan.{noTally, scanOf}
 use Rattle.reading.specs.declared.Found.{Found}
 use Rattle.reading.specs.declared.Judgement.{Judgement}
@@ -108,7 +109,7 @@ judgedParts g text l t =
     (labelsAgree text l)
     (cond
     (countsFit (t .characters) (t .pads))
-    (cond (spareClear g text l t) (judgement.Sound l (byteCount (t .characters * 3 / 4))) (judgement.Refused (SpareBits (offset (lastAt l t)))))
+    (cond (spareClear g text l t) (judgement.Sound l (byteCount (t .characters * 3 / 4)) (countedStyle (t .ends))) (judgement.Refused (SpareBits (offset (lastAt l t)))))
     (judgement.Refused (BadCounts (l .closing))))
     (judgement.Refused (LabelsDiffer (l .closed .at))))
 
@@ -135,7 +136,7 @@ foundIn l size = record { size = size; label = l .opened }
 
 abbrev pub answered : Judgement → ℕ → ReadAnswer
 answered (judgement.Refused r) room = Refused r
-answered (judgement.Sound l size) room = cond (ltb room (size .0)) (OutputTooSmall (foundIn l size)) (Accepted (foundIn l size))
+answered (judgement.Sound l size style) room = cond (ltb room (size .0)) (OutputTooSmall (foundIn l size)) (Accepted (foundIn l size) style)
 
 abbrev pub readOf : List ℕ → ℕ → ℕ → ReadAnswer
 readOf text number room = answered (judgeOf text number) room
@@ -143,7 +144,7 @@ readOf text number room = answered (judgeOf text number) room
 -- Data and then zeros, or zeros only.
 abbrev pub written : Judgement → List ℕ → ℕ → List ℕ
 written (judgement.Refused r) text room = replicate room 0
-written (judgement.Sound l size) text room =
+written (judgement.Sound l size style) text room =
     cond (ltb room (size .0)) (replicate room 0) (decode (characters (spanned text (l .body))) ++ replicate (room - size .0) 0)
 
 abbrev pub outputOf : List ℕ → ℕ → ℕ → List ℕ
@@ -152,7 +153,7 @@ outputOf text number room = written (judgeOf text number) text room
 -- The label's part of the text, empty where checks 1 to 9 refuse.
 abbrev pub labelIn : Judgement → List ℕ → List ℕ
 labelIn (judgement.Refused r) text = []
-labelIn (judgement.Sound l size) text = spanned text (l .opened)
+labelIn (judgement.Sound l size style) text = spanned text (l .opened)
 
 abbrev pub labelOf : List ℕ → ℕ → List ℕ
 labelOf text number = labelIn (judgeOf text number) text

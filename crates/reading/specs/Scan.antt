@@ -1,6 +1,6 @@
 -- The scan: the machine run over a text to its first death or the end, and what is counted beside it. Assumes nothing.
 -- None of this has to be believed: `Meaning` says what a call answers in terms of the grammars' relations.
-use mathlib.Core.Bool.{cond}
+use mathlib.Core.Bool.{Bool, cond}
 use mathlib.Core.List.{List, [], _∷_}
 use Prim.Native.Nat.{ℕ, suc, _+_, _^_, _<_}
 use Rattle.grammar.specs.declared.Grammar.{Grammar}
@@ -11,25 +11,27 @@ use Rattle.machine.specs.declared.Kind.the-variants as kind
 use Rattle.machine.specs.declared.Part.{Part}
 use Rattle.machine.specs.declared.Part.the-variants as part
 use Rattle.machine.specs.declared.State.{State}
+use Rattle.reading.specs.Ends.{noEnds, endCounted}
+use Rattle.reading.specs.declared.EndCounts.{EndCounts}
 use Rattle.reading.specs.declared.Tally.{Tally}
 use Rattle.reading.specs.declared.Scan.{Scan}
 
-abbrev pub tally : (before opening body closing characters pads last : ℕ) → Tally
-tally before opening body closing characters pads last =
-    record { before = before; opening = opening; body = body; closing = closing; characters = characters; pads = pads; last = last }
+abbrev pub tally : (before opening body closing characters pads last : ℕ) (ends : EndCounts) → Tally
+tally before opening body closing characters pads last ends =
+    record { before = before; opening = opening; body = body; closing = closing; characters = characters; pads = pads; last = last; ends = ends }
 
 abbrev pub noTally : Tally
-noTally = tally 0 0 0 0 0 0 0
+noTally = tally 0 0 0 0 0 0 0 noEnds
 
 -- A byte of the body: an alphabet character, a pad, or another.
 abbrev pub characterTallied : Tally → Tally
-characterTallied t = tally (t .before) (t .opening) (t .body + 1) (t .closing) (t .characters + 1) (t .pads) (t .body)
+characterTallied t = tally (t .before) (t .opening) (t .body + 1) (t .closing) (t .characters + 1) (t .pads) (t .body) (t .ends)
 
 abbrev pub padTallied : Tally → Tally
-padTallied t = tally (t .before) (t .opening) (t .body + 1) (t .closing) (t .characters) (t .pads + 1) (t .last)
+padTallied t = tally (t .before) (t .opening) (t .body + 1) (t .closing) (t .characters) (t .pads + 1) (t .last) (t .ends)
 
 abbrev pub otherTallied : Tally → Tally
-otherTallied t = tally (t .before) (t .opening) (t .body + 1) (t .closing) (t .characters) (t .pads) (t .last)
+otherTallied t = tally (t .before) (t .opening) (t .body + 1) (t .closing) (t .characters) (t .pads) (t .last) (t .ends)
 
 abbrev pub bodyTallied : Kind → Tally → Tally
 bodyTallied kind.Tab t = otherTallied t
@@ -45,11 +47,19 @@ bodyTallied kind.Other t = otherTallied t
 
 -- A byte of a part. What stands behind the closing is not counted.
 abbrev pub tallied : Part → Kind → Tally → Tally
-tallied part.Before k t = tally (t .before + 1) (t .opening) (t .body) (t .closing) (t .characters) (t .pads) (t .last)
-tallied part.Opening k t = tally (t .before) (t .opening + 1) (t .body) (t .closing) (t .characters) (t .pads) (t .last)
+tallied part.Before k t = tally (t .before + 1) (t .opening) (t .body) (t .closing) (t .characters) (t .pads) (t .last) (t .ends)
+tallied part.Opening k t = tally (t .before) (t .opening + 1) (t .body) (t .closing) (t .characters) (t .pads) (t .last) (t .ends)
 tallied part.Body k t = bodyTallied k t
-tallied part.Closing k t = tally (t .before) (t .opening) (t .body) (t .closing + 1) (t .characters) (t .pads) (t .last)
+tallied part.Closing k t = tally (t .before) (t .opening) (t .body) (t .closing + 1) (t .characters) (t .pads) (t .last) (t .ends)
 tallied part.After k t = t
+
+-- The same tally with other line ends.
+abbrev pub withEnds : Tally → EndCounts → Tally
+withEnds t e = tally (t .before) (t .opening) (t .body) (t .closing) (t .characters) (t .pads) (t .last) e
+
+-- A byte with the line end that it shows, behind CR or not.
+abbrev pub byteTallied : Bool → ℕ → Part → Tally → Tally
+byteTallied behindCr c p t = withEnds (tallied p (kindOf c) t) (endCounted behindCr c (t .ends))
 
 -- A tally to which a byte can be added: what code that counts has to know.
 abbrev pub Roomy : Tally → Type 0
@@ -71,4 +81,4 @@ scanOf g s n t (c ∷ l) =
     cond
     (dead ((step g s c) .phase))
     (stopped s n t)
-    (scanOf g (step g s c) (suc n) (tallied (bytePart (partOf (s .phase)) (partOf ((step g s c) .phase))) (kindOf c) t) l)
+    (scanOf g (step g s c) (suc n) (byteTallied (s .cr) c (bytePart (partOf (s .phase)) (partOf ((step g s c) .phase))) t) l)

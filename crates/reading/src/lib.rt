@@ -2,6 +2,7 @@
 // specs/Meaning says in the grammars' relations what a caller gets, and proofs/ that the definitions mean just that. The crate
 // `reader` has the code.
 use base64::ByteCount;
+use grammar::LineStyle;
 use grammar::TextOffset;
 use machine::Phase;
 
@@ -10,8 +11,16 @@ pub const TEXT_LIMIT: usize = 16777216;
 
 pub const LABEL_LIMIT: usize = 64;
 
+// What bytes hold of line ends: LF with no CR before it, LF behind CR, and CR, whatever follows it. LF behind CR makes one line end
+// of the two, so that `cr - crlf` of them are CR alone; no count depends on a byte that is still to come.
+pub struct EndCounts {
+    pub lf: usize,
+    pub crlf: usize,
+    pub cr: usize,
+}
+
 // How many bytes of a message each part has, and of its body how many alphabet characters, how many pads, and how many bytes
-// before its last alphabet character.
+// before its last alphabet character. The line ends are those of all its parts.
 pub struct Tally {
     pub before: usize,
     pub opening: usize,
@@ -20,6 +29,7 @@ pub struct Tally {
     pub characters: usize,
     pub pads: usize,
     pub last: usize,
+    pub ends: EndCounts,
 }
 
 // A text, read from an offset to the first byte that no text of the grammar could have there, or to its end: the last phase,
@@ -57,9 +67,10 @@ pub enum Refusal {
     SpareBits(TextOffset),
 }
 
-// The checks 1 to 9: all passed, by a message with this layout and so many bytes of data; or the first that did not.
+// The checks 1 to 9: all passed, by a message with this layout, so many bytes of data and these line ends; or the first that
+// did not.
 pub enum Judgement {
-    Sound(Layout, ByteCount),
+    Sound(Layout, ByteCount, LineStyle),
     Refused(Refusal),
 }
 
@@ -71,8 +82,8 @@ pub struct Found {
 
 // The answer of `read`.
 pub enum ReadAnswer {
-    // 0: the output holds the data, and then zeros.
-    Accepted(Found),
+    // 0: the output holds the data, and then zeros; the line ends are those of the whole text.
+    Accepted(Found, LineStyle),
     // 1 to 9: the output is zeros.
     Refused(Refusal),
     // 10: the output is zeros; the size is what the data needs.
