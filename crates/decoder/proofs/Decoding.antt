@@ -264,18 +264,18 @@ pub decoded-kept : {text out out' part : List ℕ} {n i k s : ℕ} → Put text 
 decoded-kept p d = record { groups = d .groups; counted = d .counted; size = d .size; written = p .kept ∙ d .written }
 
 -- Lines, and then others.
-pub lines-none : (text : List ℕ) (full : Bool) (out : List ℕ) (i : ℕ) → DecodedLines text full out out i i 0 i
+pub lines-none : (text : List ℕ) (full : Bool) (out : List ℕ) (i : ℕ) → DecodedLines text full out out i i 0 i 0 0
 lines-none text full out i = record { size = refl; room = omega arith; lines = no-lines; written = decoded-none text out i }
 
 -- Groups that were written in vain leave them as they were.
-pub lines-kept : {text : List ℕ} {full : Bool} {old out out' : List ℕ} {from end groups last : ℕ} → DecodedLines text full old out from end groups last → {i k s : ℕ}
-    → Put text out out' (3 * groups) i k s → DecodedLines text full old out' from end groups last
+pub lines-kept : {text : List ℕ} {full : Bool} {old out out' : List ℕ} {from end groups last lf crlf : ℕ} → DecodedLines text full old out from end groups last lf crlf → {i k s : ℕ}
+    → Put text out out' (3 * groups) i k s → DecodedLines text full old out' from end groups last lf crlf
 lines-kept d p = record { size = p .size ∙ d .size; room = omega (arith, p .size, d .room); lines = d .lines; written = decoded-kept p (d .written) }
 
-module _ {text : List ℕ} {old out out' : List ℕ} {from end groups last : ℕ} (start : from ≤ length text) where
+module _ {text : List ℕ} {old out out' : List ℕ} {from end groups last lf crlf : ℕ} (start : from ≤ length text) where
   -- A full line more.
-  pub full-line-more : DecodedLines text true old out from end groups last → {s : ℕ} → Put text out out' (3 * groups) end 16 s → s < mark → (w : ℕ) → LineEndAt text (end + 64) w → 0 < w
-      → DecodedLines text true old out' from (end + 64 + w) (groups + 16) (end + 64)
+  pub full-line-more : DecodedLines text true old out from end groups last lf crlf → {s : ℕ} → Put text out out' (3 * groups) end 16 s → s < mark → (w : ℕ) → LineEndAt text (end + 64) w → 0 < w
+      → DecodedLines text true old out' from (end + 64 + w) (groups + 16) (end + 64) (lf + (2 - w)) (crlf + (w - 1))
   full-line-more d p small w ended some =
       let bytes : 3 * groups + 3 * 16 ≡ 3 * (groups + 16) = omega arith in
       record {
@@ -286,9 +286,9 @@ module _ {text : List ℕ} {old out out' : List ℕ} {from end groups last : ℕ
       }
 
   -- A line of any length more.
-  pub any-line-more : DecodedLines text false old out from end groups last → {n : ℕ} → Put text out out' (3 * groups) end n 0 → 0 < n
+  pub any-line-more : DecodedLines text false old out from end groups last lf crlf → {n : ℕ} → Put text out out' (3 * groups) end n 0 → 0 < n
       → (b w : ℕ) → end + 4 * n ≤ b → b ≤ length text → Blanks text (end + 4 * n) b → LineEndAt text b w → 0 < w
-      → DecodedLines text false old out' from (b + w) (groups + n) (end + 4 * n)
+      → DecodedLines text false old out' from (b + w) (groups + n) (end + 4 * n) (lf + (2 - w)) (crlf + (w - 1))
   any-line-more d {n} p some b w more inside blanks ended any =
       let bytes : 3 * groups + 3 * n ≡ 3 * (groups + n) = omega arith in
       record {
@@ -299,13 +299,13 @@ module _ {text : List ℕ} {old out out' : List ℕ} {from end groups last : ℕ
       }
 
 -- Of the output that they were decoded into only the length counts.
-pub lines-since : {text : List ℕ} {full : Bool} {old out : List ℕ} {from end groups last : ℕ} → DecodedLines text full old out from end groups last → (older : List ℕ)
-    → length old ≡ length older → DecodedLines text full older out from end groups last
+pub lines-since : {text : List ℕ} {full : Bool} {old out : List ℕ} {from end groups last lf crlf : ℕ} → DecodedLines text full old out from end groups last lf crlf → (older : List ℕ)
+    → length old ≡ length older → DecodedLines text full older out from end groups last lf crlf
 lines-since d older same = record { size = d .size ∙ same; room = d .room; lines = d .lines; written = d .written }
 
 -- Full lines are lines.
-pub full-decoded : {text : List ℕ} {old out : List ℕ} {from end groups last : ℕ} → DecodedLines text true old out from end groups last
-    → DecodedLines text false old out from end groups last
+pub full-decoded : {text : List ℕ} {old out : List ℕ} {from end groups last lf crlf : ℕ} → DecodedLines text true old out from end groups last lf crlf
+    → DecodedLines text false old out from end groups last lf crlf
 full-decoded d = record { size = d .size; room = d .room; lines = full-lines (d .lines); written = d .written }
 
 -- The body goes on behind the part.

@@ -46,9 +46,9 @@ pub record Decoded (part out : List ℕ) (n : ℕ) : Type 0 where
   pub written : take n out ≡ decode (characters part)
 
 -- Lines from a place on were decoded into an output: where they end, how many groups they have, where the characters of the last
--- one end, and whether all of them are full.
-pub record DecodedLines (text : List ℕ) (full : Bool) (old out : List ℕ) (from end groups last : ℕ) : Type 0 where
+-- one end, how many end with LF and with CRLF, and whether all of them are full.
+pub record DecodedLines (text : List ℕ) (full : Bool) (old out : List ℕ) (from end groups last lf crlf : ℕ) : Type 0 where
   pub size : length out ≡ length old
   pub room : 3 * groups ≤ length out
-  pub lines : LinesTo text full from end groups last
+  pub lines : LinesTo text full from end groups last lf crlf
   pub written : Decoded (between text from end) out (3 * groups)

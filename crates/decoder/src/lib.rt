@@ -20,6 +20,8 @@ use base64::Value;
 use grammar::LINE_BYTES;
 use grammar::LINE_CHARS;
 use grammar::LINE_GROUPS;
+use runs::CRLF_WIDTH;
+use runs::LF_WIDTH;
 use runs::Lines;
 
 mod groups;
@@ -198,56 +200,106 @@ fn put_run(table: &[u32; 1024], text: &[u8], from: usize, out: &mut [u8], to: us
 // Decodes the full lines that stand at a place: whether they are characters of the alphabet is told by the sums of their groups.
 pub fn put_full_lines(table: &[u32; 1024], text: &[u8], from: usize, out: &mut [u8]) -> Lines
     requires { ⌜ (now table ≡ groupTable) × (from ≤ length (now text)) ⌝ }
-    ensures { λ r. ⌜ DecodedLines (now (text .entry)) true (now (out .entry)) (now (out .exit)) from (r .end) (r .groups) (r .last) ⌝ }
+    ensures { λ r. ⌜ DecodedLines (now (text .entry)) true (now (out .entry)) (now (out .exit)) from (r .end) (r .groups) (r .last) (r .lf) (r .crlf) ⌝ }
 {
     let mut end = from;
     let mut groups = 0;
     let mut last = from;
+    let mut lf = 0;
+    let mut crlf = 0;
     let mut written = 0;
     while LINE_CHARS < text.len() - end {
         if out.len() - written <= LINE_BYTES {
-            return Lines { end, groups, last };
+            return Lines {
+                end,
+                groups,
+                last,
+                lf,
+                crlf,
+            };
         }
         let width = runs::line_end_at(text, end + LINE_CHARS);
         if width == 0 {
-            return Lines { end, groups, last };
+            return Lines {
+                end,
+                groups,
+                last,
+                lf,
+                crlf,
+            };
         }
         if MARK <= put_sixteen_groups(table, text, end, out, written) {
-            return Lines { end, groups, last };
+            return Lines {
+                end,
+                groups,
+                last,
+                lf,
+                crlf,
+            };
         }
         last = end + LINE_CHARS;
         end = last + width;
         groups += LINE_GROUPS;
+        lf += CRLF_WIDTH - width;
+        crlf += width - LF_WIDTH;
         written += LINE_BYTES;
     }
-    Lines { end, groups, last }
+    Lines {
+        end,
+        groups,
+        last,
+        lf,
+        crlf,
+    }
 }
 
 // Decodes the lines of whole groups that stand at a place, with blanks at their ends: full ones first, then of any length.
 pub fn put_lines(table: &[u32; 1024], text: &[u8], from: usize, out: &mut [u8]) -> Lines
     requires { ⌜ (now table ≡ groupTable) × (from ≤ length (now text)) ⌝ }
-    ensures { λ r. ⌜ DecodedLines (now (text .entry)) false (now (out .entry)) (now (out .exit)) from (r .end) (r .groups) (r .last) ⌝ }
+    ensures { λ r. ⌜ DecodedLines (now (text .entry)) false (now (out .entry)) (now (out .exit)) from (r .end) (r .groups) (r .last) (r .lf) (r .crlf) ⌝ }
 {
     let full = put_full_lines(table, text, from, out);
     let mut end = full.end;
     let mut groups = full.groups;
     let mut last = full.last;
+    let mut lf = full.lf;
+    let mut crlf = full.crlf;
     while end < text.len() {
         let more = put_run(table, text, end, out, 3 * groups);
         let characters = end + 4 * more;
         let blanks = runs::blanks_end(text, characters);
         let width = runs::line_end_at(text, blanks);
         if more == 0 {
-            return Lines { end, groups, last };
+            return Lines {
+                end,
+                groups,
+                last,
+                lf,
+                crlf,
+            };
         }
         if width == 0 {
-            return Lines { end, groups, last };
+            return Lines {
+                end,
+                groups,
+                last,
+                lf,
+                crlf,
+            };
         }
         last = characters;
         end = blanks + width;
         groups += more;
+        lf += CRLF_WIDTH - width;
+        crlf += width - LF_WIDTH;
     }
-    Lines { end, groups, last }
+    Lines {
+        end,
+        groups,
+        last,
+        lf,
+        crlf,
+    }
 }
 
 // A group of which so many characters were read, with the value of the last one: its low bits start the next byte.

@@ -6,37 +6,41 @@ use Prim.Native.Nat.{ℕ, _+_, _-_, _*_, _≤_, _<_}
 use native.Mathlib.Omega.{arith}
 use lib.ListN.{length}
 use Rattle.runs.specs.Runs.{Characters, Blanks, LineEndAt, IsLine, LinesTo, no-lines, a-line}
-use Rattle.runs.proofs.Runs.{run-none, line-end-inside}
+use Rattle.runs.proofs.Runs.{run-none, line-end-inside, line-end-width, line-end-behind}
 
--- Where they are, and how many groups there can be.
-pub record LinesInside (text : List ℕ) (i j groups m : ℕ) : Type 0 where
+-- Where they are, and how many groups and line ends there can be.
+pub record LinesInside (text : List ℕ) (i j groups m lf crlf : ℕ) : Type 0 where
   pub forward : i ≤ j
   pub inside : j ≤ length text
-  pub few : 4 * groups ≤ j - i
+  pub few : 4 * groups + lf + 2 * crlf ≤ j - i
   pub last : (i ≤ m) × (m ≤ j)
   pub some : 0 < groups → i < m
   pub none : groups ≡ 0 → j ≡ i
 
-pub inside-none : {text : List ℕ} {i : ℕ} → i ≤ length text → LinesInside text i i 0 i
+pub inside-none : {text : List ℕ} {i : ℕ} → i ≤ length text → LinesInside text i i 0 i 0 0
 inside-none h = record { forward = omega arith; inside = h; few = omega arith; last = (omega arith, omega arith); some = λ e. absurd (omega arith); none = λ e. omega arith }
 
-pub lines-inside : {text : List ℕ} {full : Bool} {i j groups m : ℕ} → i ≤ length text → LinesTo text full i j groups m → LinesInside text i j groups m
+pub lines-inside : {text : List ℕ} {full : Bool} {i j groups m lf crlf : ℕ} → i ≤ length text → LinesTo text full i j groups m lf crlf
+    → LinesInside text i j groups m lf crlf
 lines-inside h no-lines = inside-none h
-lines-inside h (a-line w n a b l e some line ends f) =
-    let before = lines-inside h w in
-    let end = line-end-inside (line .lineEnd) (line .inside) in
+lines-inside h (a-line before n a b w e some line ends f) =
+    let first = lines-inside h before in
+    let end = line-end-behind (line .lineEnd) in
+    let inside = line-end-inside end (line .inside) in
+    let width = line-end-width end in
     record {
-      forward = omega (arith, before .forward, line .some, line .more, line .ends);
-      inside = omega (arith, end, line .ends);
-      few = omega (arith, before .few, before .forward, line .more, line .ends);
-      last = (omega (arith, before .forward, line .some), omega (arith, line .more, line .ends));
-      some = λ k. omega (arith, before .forward);
+      forward = omega (arith, first .forward, line .some, line .more);
+      inside = inside;
+      few = omega (arith, first .few, first .forward, line .more, width);
+      last = (omega (arith, first .forward, line .some), omega (arith, line .more));
+      some = λ k. omega (arith, first .forward);
       none = λ k. absurd (omega arith);
     }
 
 -- One line more, of characters, blanks and a line end.
-pub line-more : {text : List ℕ} {i j groups m : ℕ} → LinesTo text false i j groups m → (n b w : ℕ) → 0 < n → Characters text j (j + 4 * n)
-    → j + 4 * n ≤ b → b ≤ length text → Blanks text (j + 4 * n) b → LineEndAt text b w → 0 < w → LinesTo text false i (b + w) (groups + n) (j + 4 * n)
+pub line-more : {text : List ℕ} {i j groups m lf crlf : ℕ} → LinesTo text false i j groups m lf crlf → (n b w : ℕ) → 0 < n → Characters text j (j + 4 * n)
+    → j + 4 * n ≤ b → b ≤ length text → Blanks text (j + 4 * n) b → LineEndAt text b w → 0 < w
+    → LinesTo text false i (b + w) (groups + n) (j + 4 * n) (lf + (2 - w)) (crlf + (w - 1))
 line-more {text} {j = j} l n b w some a more inside blanks end ends =
     let width : b + w - b ≡ w = omega arith in
     let line : IsLine text j (j + 4 * n) b (b + w) = record {
@@ -48,11 +52,11 @@ line-more {text} {j = j} l n b w some a more inside blanks end ends =
       ends = omega arith;
       lineEnd = rw width end;
     } in
-    a-line l n (j + 4 * n) b (b + w) (omega arith) some line (omega arith) (λ e. absurd (false≢true e))
+    a-line l n (j + 4 * n) b w (omega arith) some line ends (λ e. absurd (false≢true e))
 
 -- One full line more.
-pub full-more : {text : List ℕ} {i j groups m : ℕ} → LinesTo text true i j groups m → (w : ℕ) → Characters text j (j + 64) → j + 64 ≤ length text
-    → LineEndAt text (j + 64) w → 0 < w → LinesTo text true i (j + 64 + w) (groups + 16) (j + 64)
+pub full-more : {text : List ℕ} {i j groups m lf crlf : ℕ} → LinesTo text true i j groups m lf crlf → (w : ℕ) → Characters text j (j + 64) → j + 64 ≤ length text
+    → LineEndAt text (j + 64) w → 0 < w → LinesTo text true i (j + 64 + w) (groups + 16) (j + 64) (lf + (2 - w)) (crlf + (w - 1))
 full-more {text} {j = j} lines w a inside end ends =
     let width : j + 64 + w - (j + 64) ≡ w = omega arith in
     let line : IsLine text j (j + 64) (j + 64) (j + 64 + w) = record {
@@ -64,9 +68,9 @@ full-more {text} {j = j} lines w a inside end ends =
       ends = omega arith;
       lineEnd = rw width end;
     } in
-    a-line lines 16 (j + 64) (j + 64) (j + 64 + w) (omega arith) (omega arith) line (omega arith) (λ t. (omega arith, omega arith))
+    a-line lines 16 (j + 64) (j + 64) w (omega arith) (omega arith) line ends (λ t. (omega arith, omega arith))
 
 -- Full lines are lines.
-pub full-lines : {text : List ℕ} {i j groups m : ℕ} → LinesTo text true i j groups m → LinesTo text false i j groups m
+pub full-lines : {text : List ℕ} {i j groups m lf crlf : ℕ} → LinesTo text true i j groups m lf crlf → LinesTo text false i j groups m lf crlf
 full-lines no-lines = no-lines
-full-lines (a-line w n a b l e some line ends f) = a-line (full-lines w) n a b l e some line ends (λ t. absurd (false≢true t))
+full-lines (a-line before n a b w e some line ends f) = a-line (full-lines before) n a b w e some line ends (λ t. absurd (false≢true t))

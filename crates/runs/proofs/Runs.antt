@@ -45,3 +45,13 @@ pub line-end-inside : {text : List ℕ} {i n : ℕ} → LineEndAt text i n → i
 line-end-inside none h = omega arith
 line-end-inside (lf more e) h = omega arith
 line-end-inside (crlf more e f) h = omega arith
+
+-- It has two bytes at most.
+pub line-end-width : {text : List ℕ} {i n : ℕ} → LineEndAt text i n → n ≤ 2
+line-end-width none = omega arith
+line-end-width (lf more e) = omega arith
+line-end-width (crlf more e f) = omega arith
+
+-- By its width, where a line says where it ends.
+pub line-end-behind : {text : List ℕ} {i n : ℕ} → LineEndAt text i (i + n - i) → LineEndAt text i n
+line-end-behind {i = i} {n = n} e = let width : i + n - i ≡ n = omega arith in rw width at e

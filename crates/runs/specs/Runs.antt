@@ -55,12 +55,12 @@ pub record IsLine (text : List ℕ) (i j k l : ℕ) : Type 0 where
   pub ends : k ≤ l
   pub lineEnd : LineEndAt text k (l - k)
 
--- Lines of whole groups from i on up to j: so many groups in all, and the last line's characters end at m. Full lines have 64
--- characters and no blanks.
-pub data LinesTo (text : List ℕ) (full : Bool) (i : ℕ) : (j groups m : ℕ) → Type 0 where
-  no-lines : LinesTo text full i i 0 i
-  a-line : {j groups m : ℕ} → LinesTo text full i j groups m → (n a b l : ℕ) → a ≡ j + 4 * n → 0 < n → IsLine text j a b l → b < l
-      → (full ≡ true → (n ≡ 16) × (b ≡ a)) → LinesTo text full i l (groups + n) a
+-- Lines of whole groups from i on up to j: so many groups in all, the last line's characters end at m, and so many of them end with
+-- LF and with CRLF, which the width of a line end tells. Full lines have 64 characters and no blanks.
+pub data LinesTo (text : List ℕ) (full : Bool) (i : ℕ) : (j groups m lf crlf : ℕ) → Type 0 where
+  no-lines : LinesTo text full i i 0 i 0 0
+  a-line : {j groups m lf crlf : ℕ} → LinesTo text full i j groups m lf crlf → (n a b w : ℕ) → a ≡ j + 4 * n → 0 < n → IsLine text j a b (b + w) → 0 < w
+      → (full ≡ true → (n ≡ 16) × (b ≡ a)) → LinesTo text full i (b + w) (groups + n) a (lf + (2 - w)) (crlf + (w - 1))
 
 -- From the place i on stands what is left of a word behind its first n bytes.
 pub record Stands (text : List ℕ) (i : ℕ) (word : List ℕ) (n : ℕ) : Type 0 where

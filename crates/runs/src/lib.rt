@@ -22,6 +22,11 @@ use grammar::SP;
 // How many bytes are tested at once where fewer than a line are left.
 const BLOCK: usize = 16;
 
+// The bytes of the line ends that lines are passed with: of the two widths each tells its kind.
+pub const LF_WIDTH: usize = 1;
+
+pub const CRLF_WIDTH: usize = 2;
+
 // A run of characters, blanks behind it and a line end, by the offsets at which they end; any of the three may be empty.
 pub struct Line {
     pub characters: usize,
@@ -29,11 +34,14 @@ pub struct Line {
     pub end: usize,
 }
 
-// Lines of whole groups: where they end, how many groups they have, and where the characters of the last one end.
+// Lines of whole groups: where they end, how many groups they have, where the characters of the last one end, and how many of
+// them end with LF and with CRLF.
 pub struct Lines {
     pub end: usize,
     pub groups: usize,
     pub last: usize,
+    pub lf: usize,
+    pub crlf: usize,
 }
 
 // 0 for a character of the alphabet, 1 for another byte. For whole blocks alone, and by plain comparisons where all else goes by
@@ -187,7 +195,7 @@ pub fn line_end_at(text: &[u8], at: usize) -> usize
         return 0;
     }
     if text[at] == LF {
-        return 1;
+        return LF_WIDTH;
     }
     if left == 1 {
         return 0;
@@ -198,7 +206,7 @@ pub fn line_end_at(text: &[u8], at: usize) -> usize
     if text[at + 1] != LF {
         return 0;
     }
-    2
+    CRLF_WIDTH
 }
 
 // How many pads stand at a place, two at most.
@@ -239,24 +247,46 @@ pub fn line_at(values: &[u8; 256], text: &[u8], at: usize, short: bool) -> Line
 // The full lines that stand at a place, one after the other.
 pub fn full_lines(text: &[u8], from: usize) -> Lines
     requires { ⌜ from ≤ length (now text) ⌝ }
-    ensures { λ r. ⌜ LinesTo (now (text .entry)) true from (r .end) (r .groups) (r .last) ⌝ }
+    ensures { λ r. ⌜ LinesTo (now (text .entry)) true from (r .end) (r .groups) (r .last) (r .lf) (r .crlf) ⌝ }
 {
     let mut end = from;
     let mut groups = 0;
     let mut last = from;
+    let mut lf = 0;
+    let mut crlf = 0;
     while LINE_CHARS < text.len() - end {
         if !all_characters(text, end, LINE_CHARS) {
-            return Lines { end, groups, last };
+            return Lines {
+                end,
+                groups,
+                last,
+                lf,
+                crlf,
+            };
         }
         let width = line_end_at(text, end + LINE_CHARS);
         if width == 0 {
-            return Lines { end, groups, last };
+            return Lines {
+                end,
+                groups,
+                last,
+                lf,
+                crlf,
+            };
         }
         last = end + LINE_CHARS;
         end = last + width;
         groups += LINE_GROUPS;
+        lf += CRLF_WIDTH - width;
+        crlf += width - LF_WIDTH;
     }
-    Lines { end, groups, last }
+    Lines {
+        end,
+        groups,
+        last,
+        lf,
+        crlf,
+    }
 }
 
 // Whether what is left of a word behind its first bytes stands at a place.

@@ -1,11 +1,10 @@
 -- Leaps put together from steps, and a run of alphabet characters in each of the three grammars. Assumes nothing.
-use mathlib.Core.Path.{_≡_, refl, sym, _∙_}
+use mathlib.Core.Path.{_≡_, refl, sym, ap, _∙_}
 use mathlib.Core.Bool.{Bool, true, false}
 use mathlib.Core.Logic.{inl, inr}
 use mathlib.Core.List.{List}
 use Prim.Native.Nat.{ℕ, zero, suc, _+_, _-_, _≤_, _<_, _^_}
 use native.Mathlib.Omega.{arith}
-use native.Mathlib.Numerals.{add-one}
 use lib.Dec.{eqb, ltb}
 use lib.ListN.{length, drop, getD, drop-of-length-le}
 use lib.Seq.{drop-cons}
@@ -17,14 +16,18 @@ use Rattle.machine.proofs.ByteKinds.{kindOf}
 use Rattle.machine.proofs.Machine.{state, next, step, partOf, bytePart, dead}
 use Rattle.machine.proofs.Bytes.{alphabet-seen}
 use Rattle.machine.specs.declared.StrictPhase.the-variants as strict
+use Rattle.machine.specs.declared.Kind.{Kind}
+use Rattle.machine.specs.declared.Part.{Part}
 use Rattle.machine.specs.declared.Phase.{Phase}
 use Rattle.machine.specs.declared.Phase.the-variants.{Strict}
 use Rattle.machine.specs.declared.State.{State}
 use Rattle.reading.specs.declared.Tally.{Tally}
-use Rattle.reading.specs.Scan.{characterTallied, tallied, stopped, scanOf}
+use Rattle.reading.specs.Ends.{ends, endCounted}
+use Rattle.reading.specs.Scan.{characterTallied, tallied, withEnds, byteTallied, stopped, scanOf}
 use Rattle.reading.proofs.Scans.{Within, within-next}
+use Rattle.reading.proofs.Tallies.{part-ends}
 use Rattle.runs.specs.Runs.{Characters, Blanks, LineEndAt, none, lf, crlf, Pads}
-use Rattle.scanner.specs.Advances.{Advanced, Stopped, Countable, runTallied, othersTallied, padsTallied}
+use Rattle.scanner.specs.Advances.{Advanced, Stopped, Countable, runTallied, othersTallied, padsTallied, widthTallied}
 use Rattle.leaps.specs.Phases.{OnCharacter, OnLineEnd, OnBlank, OnPad, OnPads, one-pad, two-pads}
 use Rattle.leaps.proofs.Phases.{strict-way, strict-line, strict-ends}
 use Rattle.scanner.specs.Phases.{FullLine, FullLines}
@@ -48,15 +51,26 @@ module _ {g : Grammar} {text : List ℕ} where
 
   -- One byte that the machine lives through.
   pub advanced-byte : (s : State) (t : Tally) (i : ℕ) (s' : State) (t' : Tally) → i < length text → step g s (getD text i 0) ≡ s' → dead (s' .phase) ≡ false
-      → t' ≡ tallied (bytePart (partOf (s .phase)) (partOf (s' .phase))) (kindOf (getD text i 0)) t → Advanced g text s t i s' t' (i + 1)
+      → t' ≡ byteTallied (s .cr) (getD text i 0) (bytePart (partOf (s .phase)) (partOf (s' .phase))) t → Advanced g text s t i s' t' (i + 1)
   advanced-byte s t i s' t' h e alive counted =
       let one : (n : ℕ) → n + (i + 1 - i) ≡ suc n = λ n. omega arith in
+      let next-byte : i + 1 ≡ suc i = omega arith in
       record {
         forward = omega arith;
         inside = omega arith;
-        within = λ n w. rw (one n, counted) (within-next (bytePart (partOf (s .phase)) (partOf (s' .phase))) (kindOf (getD text i 0)) w);
-        ahead = λ n. rw (one n, add-one, counted, drop-cons text i 0 h, e, alive);
+        within = λ n w. rw (one n, counted) (within-next (s .cr) (getD text i 0) (bytePart (partOf (s .phase)) (partOf (s' .phase))) w);
+        ahead = λ n. rw (one n, next-byte, counted, drop-cons text i 0 h, e, alive);
       }
+
+  -- One that shows no line end.
+  pub advanced-plain : (s : State) (t : Tally) (i : ℕ) (s' : State) (t' : Tally) → i < length text → step g s (getD text i 0) ≡ s' → dead (s' .phase) ≡ false
+      → eqb (getD text i 0) LF ≡ false → eqb (getD text i 0) CR ≡ false
+      → t' ≡ tallied (bytePart (partOf (s .phase)) (partOf (s' .phase))) (kindOf (getD text i 0)) t → Advanced g text s t i s' t' (i + 1)
+  advanced-plain s t i s' t' h e alive no-lf no-cr counted =
+      let p : Part = bytePart (partOf (s .phase)) (partOf (s' .phase)) in
+      let k : Kind = kindOf (getD text i 0) in
+      let no-end : endCounted (s .cr) (getD text i 0) (t .ends) ≡ t .ends = rw (no-lf, no-cr) in
+      advanced-byte s t i s' t' h e alive (counted ∙ part-ends p k t (t .ends) ∙ sym (ap (withEnds (tallied p k t)) no-end))
 
 -- A scan that goes no further.
 pub stopped-end : (g : Grammar) (text : List ℕ) (s : State) (t : Tally) (i : ℕ) → length text ≤ i → Stopped g text s t i
@@ -100,9 +114,11 @@ module _ {g : Grammar} {text : List ℕ} where
       → Advanced g text (state p cr) t i (state q false) (characterTallied t) (i + 1)
   advanced-char {p} {q} w cr t i h a =
       let seen = alphabet-seen (getD text i 0) a in
-      advanced-byte (state p cr) t i (state q false) (characterTallied t) h
+      advanced-plain (state p cr) t i (state q false) (characterTallied t) h
       (step-moves g p cr (getD text i 0) (seen .no-lf) ∙ rw (w .takes (getD text i 0) a, seen .no-cr))
       (w .alive)
+      (seen .no-lf)
+      (seen .no-cr)
       (rw (w .from, w .to, seen .kind))
 
   -- A run: behind its first character the machine counts down.
@@ -122,27 +138,48 @@ module _ {g : Grammar} {text : List ℕ} where
 
 -- ---- Line ends
 
-module _ {g : Grammar} {text : List ℕ} {p q : Phase} (w : OnLineEnd g p q) (t : Tally) (i : ℕ) where
-  advanced-lf : i < length text → getD text i 0 ≡ LF → Advanced g text (state p false) t i (state q false) (othersTallied 1 t) (i + 1)
-  advanced-lf h e = advanced-byte (state p false) t i (state q false) (othersTallied 1 t) h (rw (e, w .lf)) (w .alive) (rw (w .from, w .to, e))
+-- One byte of each kind.
+abbrev lfTallied : Tally → Tally
+lfTallied t = withEnds (othersTallied 1 t) (ends (t .ends .lf + 1) (t .ends .crlf) (t .ends .cr))
 
-  advanced-cr : i < length text → getD text i 0 ≡ CR → Advanced g text (state p false) t i (state q true) (othersTallied 1 t) (i + 1)
-  advanced-cr h e = advanced-byte (state p false) t i (state q true) (othersTallied 1 t) h (rw (e, w .cr)) (w .alive) (rw (w .from, w .to, e))
+abbrev crTallied : Tally → Tally
+crTallied t = withEnds (othersTallied 1 t) (ends (t .ends .lf) (t .ends .crlf) (t .ends .cr + 1))
+
+abbrev secondTallied : Tally → Tally
+secondTallied t = withEnds (othersTallied 1 t) (ends (t .ends .lf) (t .ends .crlf + 1) (t .ends .cr))
+
+lf-told : (t : Tally) → lfTallied t ≡ widthTallied 1 (othersTallied 1 t)
+lf-told t =
+    let pairs : t .ends .crlf + 0 ≡ t .ends .crlf = omega arith in
+    let crs : t .ends .cr + 0 ≡ t .ends .cr = omega arith in
+    rw (pairs, crs)
+
+crlf-told : (t : Tally) → secondTallied (crTallied t) ≡ widthTallied 2 (othersTallied 2 t)
+crlf-told t =
+    let both : t .body + 1 + 1 ≡ t .body + 2 = omega arith in
+    let lfs : t .ends .lf + 0 ≡ t .ends .lf = omega arith in
+    rw (both, lfs)
+
+module _ {g : Grammar} {text : List ℕ} {p q : Phase} (w : OnLineEnd g p q) (t : Tally) (i : ℕ) where
+  advanced-lf : i < length text → getD text i 0 ≡ LF → Advanced g text (state p false) t i (state q false) (lfTallied t) (i + 1)
+  advanced-lf h e = advanced-byte (state p false) t i (state q false) (lfTallied t) h (rw (e, w .lf)) (w .alive) (rw (w .from, w .to, e))
+
+  advanced-cr : i < length text → getD text i 0 ≡ CR → Advanced g text (state p false) t i (state q true) (crTallied t) (i + 1)
+  advanced-cr h e = advanced-byte (state p false) t i (state q true) (crTallied t) h (rw (e, w .cr)) (w .alive) (rw (w .from, w .to, e))
 
   -- LF behind CR moves nothing.
-  advanced-second : (u : Tally) (j : ℕ) → j < length text → getD text j 0 ≡ LF → Advanced g text (state q true) u j (state q false) (othersTallied 1 u) (j + 1)
-  advanced-second u j h e = advanced-byte (state q true) u j (state q false) (othersTallied 1 u) h (rw e) (w .alive) (rw (w .to, e))
+  advanced-second : (u : Tally) (j : ℕ) → j < length text → getD text j 0 ≡ LF → Advanced g text (state q true) u j (state q false) (secondTallied u) (j + 1)
+  advanced-second u j h e = advanced-byte (state q true) u j (state q false) (secondTallied u) h (rw e) (w .alive) (rw (w .to, e))
 
-  advanced-crlf : i + 1 < length text → getD text i 0 ≡ CR → getD text (i + 1) 0 ≡ LF → Advanced g text (state p false) t i (state q false) (othersTallied 2 t) (i + 2)
+  advanced-crlf : i + 1 < length text → getD text i 0 ≡ CR → getD text (i + 1) 0 ≡ LF → Advanced g text (state p false) t i (state q false) (secondTallied (crTallied t)) (i + 2)
   advanced-crlf h e f =
       let two : i + 1 + 1 ≡ i + 2 = omega arith in
-      let both : t .body + 1 + 1 ≡ t .body + 2 = omega arith in
-      rw (← two, ← both) (advanced-then (advanced-cr (omega arith) e) (advanced-second (othersTallied 1 t) (i + 1) h f))
+      rw (← two) (advanced-then (advanced-cr (omega arith) e) (advanced-second (crTallied t) (i + 1) h f))
 
-  pub advanced-line-end : {n : ℕ} → LineEndAt text i n → 0 < n → Advanced g text (state p false) t i (state q false) (othersTallied n t) (i + n)
+  pub advanced-line-end : {n : ℕ} → LineEndAt text i n → 0 < n → Advanced g text (state p false) t i (state q false) (widthTallied n (othersTallied n t)) (i + n)
   advanced-line-end none some = absurd (omega arith)
-  advanced-line-end (lf h e) some = advanced-lf h e
-  advanced-line-end (crlf h e f) some = advanced-crlf h e f
+  advanced-line-end (lf h e) some = rw (← lf-told t) (advanced-lf h e)
+  advanced-line-end (crlf h e f) some = rw (← crlf-told t) (advanced-crlf h e f)
 
 -- ---- Blanks
 
@@ -155,8 +192,8 @@ others-more m n t = let e : t .body + m + n ≡ t .body + (m + n) = omega arith 
 module _ {g : Grammar} {text : List ℕ} where
   advanced-blank : {p q : Phase} → OnBlank g p q → (t : Tally) (i : ℕ) → i < length text → Blank (getD text i 0)
       → Advanced g text (state p false) t i (state q false) (othersTallied 1 t) (i + 1)
-  advanced-blank {p} {q} w t i h (inl e) = advanced-byte (state p false) t i (state q false) (othersTallied 1 t) h (rw (e, w .ht)) (w .alive) (rw (w .from, w .to, e))
-  advanced-blank {p} {q} w t i h (inr e) = advanced-byte (state p false) t i (state q false) (othersTallied 1 t) h (rw (e, w .sp)) (w .alive) (rw (w .from, w .to, e))
+  advanced-blank {p} {q} w t i h (inl e) = advanced-plain (state p false) t i (state q false) (othersTallied 1 t) h (rw (e, w .ht)) (w .alive) (rw e) (rw e) (rw (w .from, w .to, e))
+  advanced-blank {p} {q} w t i h (inr e) = advanced-plain (state p false) t i (state q false) (othersTallied 1 t) h (rw (e, w .sp)) (w .alive) (rw e) (rw e) (rw (w .from, w .to, e))
 
   advanced-blanks : (n : ℕ) {p q : Phase} → OnBlank g p q → OnBlank g q q → (t : Tally) (i : ℕ) → i + suc n ≤ length text → Blanks text i (i + suc n)
       → Advanced g text (state p false) t i (state q false) (othersTallied (suc n) t) (i + suc n)
@@ -179,11 +216,11 @@ module _ {g : Grammar} {text : List ℕ} where
   -- Blanks, if any, and a line end.
   pub blanks-line-end : {within behind trailing : Phase} → OnBlank g within trailing → OnBlank g trailing trailing → OnLineEnd g within behind → OnLineEnd g trailing behind
       → (t : Tally) (j k n : ℕ) → j ≤ k → k ≤ length text → Blanks text j k → LineEndAt text k n → 0 < n
-      → Advanced g text (state within false) t j (state behind false) (othersTallied (k - j + n) t) (k + n)
+      → Advanced g text (state within false) t j (state behind false) (widthTallied n (othersTallied (k - j + n) t)) (k + n)
   blanks-line-end {within} {behind} w on ends closes t j k n low inside a e some = go (ltb j k) refl
     where
-      go : (b : Bool) → ltb j k ≡ b → Advanced g text (state within false) t j (state behind false) (othersTallied (k - j + n) t) (k + n)
-      go true q = rw (others-more (k - j) n t) at (advanced-then (blanks-to w on t j k (ltb-true j k q) inside a) (advanced-line-end closes (othersTallied (k - j) t) k e some))
+      go : (b : Bool) → ltb j k ≡ b → Advanced g text (state within false) t j (state behind false) (widthTallied n (othersTallied (k - j + n) t)) (k + n)
+      go true q = rw (ap (widthTallied n) (others-more (k - j) n t)) at (advanced-then (blanks-to w on t j k (ltb-true j k q) inside a) (advanced-line-end closes (othersTallied (k - j) t) k e some))
       go false q =
           let same : j ≡ k = omega (arith, ltb-false j k q) in
           let here : k - j + n ≡ n = omega arith in
@@ -204,10 +241,10 @@ module _ {g : Grammar} {text : List ℕ} where
       let no-lf : eqb (getD text i 0) LF ≡ false = rw e in
       let no-cr : eqb (getD text i 0) CR ≡ false = rw e in
       let leads : next g p (getD text i 0) ≡ q = rw e (w .takes) in
-      advanced-byte (state p cr) t i (state q false) (padsTallied 1 t) h (step-moves g p cr (getD text i 0) no-lf ∙ rw (leads, no-cr)) (w .alive) (rw (w .from, w .to, e))
+      advanced-plain (state p cr) t i (state q false) (padsTallied 1 t) h (step-moves g p cr (getD text i 0) no-lf ∙ rw (leads, no-cr)) (w .alive) no-lf no-cr (rw (w .from, w .to, e))
 
   pub pads-line-end : {p q : Phase} {n : ℕ} → OnPads g p n q → (cr : Bool) (t : Tally) (i w : ℕ) → i + n ≤ length text → Pads text i (i + n) → LineEndAt text (i + n) w → 0 < w
-      → Advanced g text (state p cr) t i (state q false) (othersTallied w (padsTallied n t)) (i + n + w)
+      → Advanced g text (state p cr) t i (state q false) (widthTallied w (othersTallied w (padsTallied n t))) (i + n + w)
   pads-line-end (one-pad first end) cr t i w h a e some =
       advanced-then (advanced-pad first cr t i (omega arith) (a .all i (omega arith) (omega arith))) (advanced-line-end end (padsTallied 1 t) (i + 1) e some)
   pads-line-end (two-pads first second end) cr t i w h a e some =
@@ -252,5 +289,5 @@ strict-lines {g} w = record { first = strict-full w; again = strict-full (strict
 
 -- One full line of those that may stand here.
 pub full-line : {g : Grammar} {text : List ℕ} {p q : Phase} → FullLine g p q → (cr : Bool) (t : Tally) (i n : ℕ) → i + 64 ≤ length text → Characters text i (i + 64) → LineEndAt text (i + 64) n → 0 < n
-    → Advanced g text (state p cr) t i (state q false) (othersTallied n (runTallied 64 t)) (i + 64 + n)
+    → Advanced g text (state p cr) t i (state q false) (widthTallied n (othersTallied n (runTallied 64 t))) (i + 64 + n)
 full-line {text = text} l cr t i n h a e some = advanced-then (l .run text cr t i h a) (advanced-line-end (l .ends) (runTallied 64 t) (i + 64) e some)

@@ -33,7 +33,7 @@ use Rattle.runs.specs.Runs.{Stands, LabelRun}
 use Rattle.scanner.specs.Advances.{Advanced, Countable, boundaryTallied, endedTallied}
 use Rattle.leaps.specs.Phases.{Closes}
 use Rattle.scanner.specs.Phases.{Continues}
-use Rattle.scanner.proofs.Advances.{advanced-then, advanced-byte, step-moves}
+use Rattle.scanner.proofs.Advances.{advanced-then, advanced-byte, advanced-plain, step-moves}
 
 -- A byte leads from one phase of a boundary on.
 record Inner (g : Grammar) (b : Boundary) (p q : Phase) (c : ℕ) : Type 0 where
@@ -55,9 +55,11 @@ module _ {g : Grammar} {text : List ℕ} {b : Boundary} where
   advanced-inner : {p q : Phase} (cr : Bool) (t : Tally) (i : ℕ) → i < length text → Inner g b p q (getD text i 0)
       → Advanced g text (state p cr) t i (state q false) (boundaryTallied b 1 t) (i + 1)
   advanced-inner {p} {q} cr t i h w =
-      advanced-byte (state p cr) t i (state q false) (boundaryTallied b 1 t) h
+      advanced-plain (state p cr) t i (state q false) (boundaryTallied b 1 t) h
       (step-moves g p cr (getD text i 0) (w .no-lf) ∙ rw (w .leads, w .no-cr))
       (w .alive)
+      (w .no-lf)
+      (w .no-cr)
       (boundary-tallied b (partOf q) (kindOf (getD text i 0)) t ∙ rw (w .from))
 
   -- One byte, and then more of the same boundary.
@@ -254,13 +256,19 @@ pub ended-leap : {text : List ℕ} (g : Grammar) (b : Boundary) (t : Tally) (i :
     → Advanced g text (state (behind g b) false) t i (state (next g (behind g b) LF) false) (endedTallied b t) (i + 1)
 ended-leap {text} g b t i h e = go g b
   where
+    pairs : t .ends .crlf + 0 ≡ t .ends .crlf
+    pairs = omega arith
+
+    crs : t .ends .cr + 0 ≡ t .ends .cr
+    crs = omega arith
+
     go : (g : Grammar) (b : Boundary) → Advanced g text (state (behind g b) false) t i (state (next g (behind g b) LF) false) (endedTallied b t) (i + 1)
-    go grammar.Lax Opening = advanced-byte _ t i _ _ h (rw e) refl (rw e)
-    go grammar.Standard Opening = advanced-byte _ t i _ _ h (rw e) refl (rw e)
-    go grammar.Strict Opening = advanced-byte _ t i _ _ h (rw e) refl (rw e)
-    go grammar.Lax Closing = advanced-byte _ t i _ _ h (rw e) refl refl
-    go grammar.Standard Closing = advanced-byte _ t i _ _ h (rw e) refl refl
-    go grammar.Strict Closing = advanced-byte _ t i _ _ h (rw e) refl refl
+    go grammar.Lax Opening = advanced-byte _ t i _ _ h (rw e) refl (rw (e, pairs, crs))
+    go grammar.Standard Opening = advanced-byte _ t i _ _ h (rw e) refl (rw (e, pairs, crs))
+    go grammar.Strict Opening = advanced-byte _ t i _ _ h (rw e) refl (rw (e, pairs, crs))
+    go grammar.Lax Closing = advanced-byte _ t i _ _ h (rw e) refl (rw (e, pairs, crs))
+    go grammar.Standard Closing = advanced-byte _ t i _ _ h (rw e) refl (rw (e, pairs, crs))
+    go grammar.Strict Closing = advanced-byte _ t i _ _ h (rw e) refl (rw (e, pairs, crs))
 
 pub closing-leap : {g : Grammar} {text : List ℕ} {p : Phase} → Closes p → (cr : Bool) (t : Tally) (i : ℕ) → i < length text → getD text i 0 ≡ hyphen
     → Advanced g text (state p cr) t i (state (Word Closing 1) false) (boundaryTallied Closing 1 t) (i + 1)
@@ -268,7 +276,7 @@ closing-leap {g} {text} {p} w cr t i h e =
     let no-lf : eqb (getD text i 0) LF ≡ false = rw e in
     let no-cr : eqb (getD text i 0) CR ≡ false = rw e in
     let leads : next g p (getD text i 0) ≡ Word Closing 1 = rw e (w .leads g) in
-    advanced-byte (state p cr) t i (state (Word Closing 1) false) (boundaryTallied Closing 1 t) h (step-moves g p cr (getD text i 0) no-lf ∙ rw (leads, no-cr)) refl (rw (w .from))
+    advanced-plain (state p cr) t i (state (Word Closing 1) false) (boundaryTallied Closing 1 t) h (step-moves g p cr (getD text i 0) no-lf ∙ rw (leads, no-cr)) refl no-lf no-cr (rw (w .from))
 
 -- Bytes of a boundary leave the rest countable.
 pub boundary-countable : (text : List ℕ) (b : Boundary) (n : ℕ) (t : Tally) (i j : ℕ) → Countable text t i → j ≡ i + n → j ≤ length text → Countable text (boundaryTallied b n t) j

@@ -15,18 +15,20 @@ ghost use Rattle.machine.specs.declared.Phase.{Phase};
 ghost use Rattle.machine.specs.declared.Phase.the-variants.{Strict, Word, Label};
 ghost use Rattle.machine.specs.declared.LabelPhase.the-variants.{Start};
 ghost use Rattle.machine.specs.declared.StrictPhase.the-variants.{Data};
-ghost use Rattle.reading.specs.Scan.{Roomy, noTally, bodyTallied, tallied, stopped, scanOf};
+ghost use Rattle.reading.specs.Ends.{RoomyEnds, endCounted};
+ghost use Rattle.reading.specs.Scan.{Roomy, noTally, bodyTallied, tallied, withEnds, byteTallied, stopped, scanOf};
 ghost use Rattle.reading.proofs.Scans.{Within};
 ghost use Rattle.decoder.specs.Tables.{groupTable};
 ghost use Rattle.runs.specs.Runs.{between};
 ghost use Rattle.decoder.specs.Decoding.{Decoded};
-ghost use Rattle.scanner.specs.Advances.{positionAt, Advanced, Stopped, Countable, LinesFit, runTallied, othersTallied, padsTallied, linesTallied, boundaryTallied, endedTallied, behindLines};
+ghost use Rattle.scanner.specs.Advances.{positionAt, Advanced, Stopped, Countable, LinesFit, runTallied, othersTallied, padsTallied, linesTallied, boundaryTallied, endedTallied, endsTallied, EndsFit, widthTallied, behindLines};
 ghost use Rattle.leaps.specs.Phases.{OnCharacter, LinePhases};
 ghost use Rattle.scanner.specs.Phases.{Continues};
 use base64::GROUP_BYTES;
 use base64::GROUP_CHARS;
 use base64::PAD;
 use grammar::BEGIN;
+use grammar::CR;
 use grammar::END;
 use grammar::Grammar;
 use grammar::HYPHEN;
@@ -45,8 +47,11 @@ use machine::Phase;
 use machine::StandardPhase;
 use machine::State;
 use machine::StrictPhase;
+use reading::EndCounts;
 use reading::Scan;
 use reading::Tally;
+use runs::CRLF_WIDTH;
+use runs::LF_WIDTH;
 use runs::Lines;
 
 // How far a scan has come: the offset of the next byte, the machine's state before it, and the tally of those behind it.
@@ -177,6 +182,65 @@ fn tally_byte(tally: Tally, part: Part, kind: Kind) -> Tally
     }
 }
 
+// The line-end step: LF, LF behind CR and CR are told apart, in whatever part of a message they stand.
+fn tally_line_end(tally: Tally, behind: bool, b: u8) -> Tally
+    requires { ⌜ RoomyEnds (tally .ends) ⌝ }
+    ensures { λ r. ⌜ r ≡ withEnds tally (endCounted behind b (tally .ends)) ⌝ }
+{
+    let mut ends = tally.ends;
+    let mut next = tally;
+    if b == LF {
+        if behind {
+            ends.crlf = ends.crlf + 1;
+            next.ends = ends;
+            return next;
+        }
+        ends.lf = ends.lf + 1;
+        next.ends = ends;
+        return next;
+    }
+    if b == CR {
+        ends.cr = ends.cr + 1;
+        next.ends = ends;
+        return next;
+    }
+    next
+}
+
+// A byte of a part, counted with the line end that it shows, behind CR or not.
+fn count_byte(values: &[u8; 256], tally: Tally, behind: bool, part: Part, b: u8) -> Tally
+    requires { ⌜ DecodeTable (now values) × Roomy tally × RoomyEnds (tally .ends) ⌝ }
+    ensures { λ r. ⌜ r ≡ byteTallied behind b part tally ⌝ }
+{
+    tally_byte(
+        tally_line_end(tally, behind, b),
+        part,
+        engine::kind_of(values, b),
+    )
+}
+
+// So many line ends behind other bytes, LF and CRLF, counted; their bytes are counted apart.
+fn tally_ends(tally: Tally, lf: usize, crlf: usize) -> Tally
+    requires { ⌜ EndsFit (tally .ends) lf crlf ⌝ }
+    ensures { λ r. ⌜ r ≡ endsTallied lf crlf tally ⌝ }
+{
+    let mut ends = tally.ends;
+    ends.lf = ends.lf + lf;
+    ends.crlf = ends.crlf + crlf;
+    ends.cr = ends.cr + crlf;
+    let mut next = tally;
+    next.ends = ends;
+    next
+}
+
+// One of them, which its width tells.
+fn tally_width(tally: Tally, width: usize) -> Tally
+    requires { ⌜ (0 < width) × (width ≤ 2) × EndsFit (tally .ends) (2 - width) (width - 1) ⌝ }
+    ensures { λ r. ⌜ r ≡ widthTallied width tally ⌝ }
+{
+    tally_ends(tally, CRLF_WIDTH - width, width - LF_WIDTH)
+}
+
 // A position in a phase, behind a byte that is no CR.
 fn at_phase(at: usize, phase: Phase, tally: Tally) -> Position
     ensures { λ r. ⌜ r ≡ positionAt at (state phase false) tally ⌝ }
@@ -226,7 +290,7 @@ fn advance_lines(
         let told = tally_line(tally, line.characters - at, end - line.characters);
         if line.blanks < end {
             at = end;
-            tally = told;
+            tally = tally_width(told, end - line.blanks);
             state = State {
                 phase: behind,
                 cr: false,
@@ -290,20 +354,20 @@ fn advance_in_line(
 
 // Lines of whole groups of a body, counted.
 fn tally_lines(tally: Tally, from: usize, lines: Lines) -> Tally
-    requires { ⌜ LinesFit from tally (lines .end) (lines .groups) (lines .last) × (0 < lines .groups) ⌝ }
-    ensures { λ r. ⌜ r ≡ linesTallied from (lines .end) (lines .groups) (lines .last) tally ⌝ }
+    requires { ⌜ LinesFit from tally (lines .end) (lines .groups) (lines .last) (lines .lf) (lines .crlf) × (0 < lines .groups) ⌝ }
+    ensures { λ r. ⌜ r ≡ linesTallied from (lines .end) (lines .groups) (lines .last) (lines .lf) (lines .crlf) tally ⌝ }
 {
     let mut next = tally;
     next.body = tally.body + (lines.end - from);
     next.characters = tally.characters + GROUP_CHARS * lines.groups;
     next.last = tally.body + (lines.last - from) - 1;
-    next
+    tally_ends(next, lines.lf, lines.crlf)
 }
 
 // The position behind lines, which lead to one phase however many there are.
 fn behind_lines(from: usize, first: State, counted: Tally, behind: Phase, lines: Lines) -> Position
-    requires { ⌜ LinesFit from counted (lines .end) (lines .groups) (lines .last) ⌝ }
-    ensures { λ r. ⌜ r ≡ behindLines from first counted behind (lines .end) (lines .groups) (lines .last) ⌝ }
+    requires { ⌜ LinesFit from counted (lines .end) (lines .groups) (lines .last) (lines .lf) (lines .crlf) ⌝ }
+    ensures { λ r. ⌜ r ≡ behindLines from first counted behind (lines .end) (lines .groups) (lines .last) (lines .lf) (lines .crlf) ⌝ }
 {
     if lines.groups == 0 {
         return Position {
@@ -323,8 +387,8 @@ fn decoded_behind(
     behind: Phase,
     lines: Lines,
 ) -> DecodedLines
-    requires { ⌜ LinesFit from counted (lines .end) (lines .groups) (lines .last) × (3 * lines .groups < 2 ^ 64) ⌝ }
-    ensures { λ r. ⌜ (r .position ≡ behindLines from first counted behind (lines .end) (lines .groups) (lines .last)) × (r .written ≡ 3 * lines .groups) ⌝ }
+    requires { ⌜ LinesFit from counted (lines .end) (lines .groups) (lines .last) (lines .lf) (lines .crlf) × (3 * lines .groups < 2 ^ 64) ⌝ }
+    ensures { λ r. ⌜ (r .position ≡ behindLines from first counted behind (lines .end) (lines .groups) (lines .last) (lines .lf) (lines .crlf)) × (r .written ≡ 3 * lines .groups) ⌝ }
 {
     DecodedLines {
         position: behind_lines(from, first, counted, behind, lines),
@@ -461,14 +525,16 @@ fn advance_word(
     }
 }
 
-// The LF of a boundary's line, counted: it is the body's behind the opening, and behind the closing nothing is counted.
+// The LF of a boundary's line, counted: it is a byte of the body behind the opening, and behind the closing of no part that is
+// counted.
 fn tally_ended(boundary: Boundary, tally: Tally) -> Tally
-    requires { ⌜ tally .body + 1 < 2 ^ 64 ⌝ }
+    requires { ⌜ (tally .body + 1 < 2 ^ 64) × EndsFit (tally .ends) 1 0 ⌝ }
     ensures { λ r. ⌜ r ≡ endedTallied boundary tally ⌝ }
 {
+    let counted = tally_ends(tally, 1, 0);
     match boundary {
-        Boundary::Opening => tally_others(tally, 1),
-        Boundary::Closing => tally,
+        Boundary::Opening => tally_others(counted, 1),
+        Boundary::Closing => counted,
     }
 }
 
@@ -631,7 +697,7 @@ fn advance_pads(text: &[u8], at: usize, state: State, tally: Tally) -> Position
         return stay(text, at, state, tally);
     }
     let counted = tally_others(tally_pads(tally, pads), width);
-    at_phase(at + pads + width, next, counted)
+    at_phase(at + pads + width, next, tally_width(counted, width))
 }
 
 // Behind the opening: the closing, pads, or lines of the body.
@@ -710,7 +776,7 @@ fn advance_byte(
     Position {
         at: at + 1,
         state: next,
-        tally: tally_byte(tally, part, engine::kind_of(values, b)),
+        tally: count_byte(values, tally, state.cr, part, b),
     }
 }
 
@@ -829,6 +895,11 @@ fn no_tally() -> Tally
         characters: 0,
         pads: 0,
         last: 0,
+        ends: EndCounts {
+            lf: 0,
+            crlf: 0,
+            cr: 0,
+        },
     }
 }
 

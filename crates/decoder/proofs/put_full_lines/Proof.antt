@@ -5,7 +5,7 @@ use Prim.Native.Nat.{_-_, _*_}
 use native.Mathlib.Omega.{arith}
 use lib.ListN.{length}
 use borrow.Author.Needs.{needs}
-use Rattle.runs.proofs.Runs.{line-end-inside}
+use Rattle.runs.proofs.Runs.{line-end-inside, line-end-width}
 use Rattle.runs.proofs.Lined.{LinesInside, inside-none, lines-inside}
 use Rattle.decoder.specs.Decoding.{DecodedLines}
 use Rattle.decoder.proofs.Decoding.{lines-none, lines-kept, full-line-more}
@@ -13,11 +13,11 @@ use Rattle.decoder.proofs.put_full_lines.Statement.{statement}
 use Rattle.decoder.proofs.put_full_lines.Tie as tie
 
 abbrev Inv-loop : tie.InvT-loop
-Inv-loop table text from out₀ end₀ groups₀ last₀ written₀ out end groups last written =
-    DecodedLines text true out₀ out from end groups last × LinesInside text from end groups last × (written ≡ 3 * groups)
+Inv-loop table text from out₀ end₀ groups₀ last₀ lf₀ crlf₀ written₀ out end groups last lf crlf written =
+    DecodedLines text true out₀ out from end groups last lf crlf × LinesInside text from end groups last lf crlf × (written ≡ 3 * groups)
 
 abbrev μ-loop : tie.MeasureT-loop
-μ-loop table text from out₀ end₀ groups₀ last₀ written₀ out end groups last written = length text - end
+μ-loop table text from out₀ end₀ groups₀ last₀ lf₀ crlf₀ written₀ out end groups last lf crlf written = length text - end
 
 loop-holds : tie.Need-loop-holds Inv-loop μ-loop
 loop-holds c =
@@ -73,6 +73,23 @@ add-groups c =
     let inv = c .before .before .before .before .before .before .before .before .before .loop .inv in
     record { fits = omega (arith, inv .1 .few, inv .1 .inside, c .before .before .before .before .before .before .before .before .before .before .before .before .good) }
 
+sub-lf : tie.Need-sub-lf Inv-loop μ-loop
+sub-lf c = line-end-width (c .before .before .before .before .before .before .line-end-at .ensures)
+
+add-lf : tie.Need-add-lf Inv-loop μ-loop
+add-lf c =
+    let inv = c .before .before .before .before .before .before .before .before .before .loop .inv in
+    record { fits = omega (arith, inv .1 .few, inv .1 .inside, c .before .before .before .before .before .before .before .before .before .before .before .before .good) }
+
+sub-crlf : tie.Need-sub-crlf Inv-loop μ-loop
+sub-crlf c = omega arith
+
+add-crlf : tie.Need-add-crlf Inv-loop μ-loop
+add-crlf c =
+    let inv = c .before .before .before .before .before .before .before .before .before .loop .inv in
+    let width = line-end-width (c .before .before .before .before .before .before .line-end-at .ensures) in
+    record { fits = omega (arith, inv .1 .few, inv .1 .inside, width, c .before .before .before .before .before .before .before .before .before .before .before .before .good) }
+
 add-written : tie.Need-add-written Inv-loop μ-loop
 add-written c =
     let inv = c .before .before .before .before .before .before .before .before .before .loop .inv in
@@ -117,6 +134,10 @@ put-full-lines-spec =
     add-last
     add-end
     add-groups
+    sub-lf
+    add-lf
+    sub-crlf
+    add-crlf
     add-written
     loop-less
     loop-again

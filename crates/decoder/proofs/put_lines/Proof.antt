@@ -5,7 +5,7 @@ use Prim.Native.Nat.{_-_}
 use native.Mathlib.Omega.{arith}
 use lib.ListN.{length}
 use borrow.Author.Needs.{needs}
-use Rattle.runs.proofs.Runs.{line-end-inside}
+use Rattle.runs.proofs.Runs.{line-end-inside, line-end-width}
 use Rattle.runs.proofs.Lined.{LinesInside, lines-inside}
 use Rattle.decoder.specs.Decoding.{DecodedLines}
 use Rattle.decoder.proofs.Decoding.{lines-kept, any-line-more, lines-since, full-decoded}
@@ -13,11 +13,11 @@ use Rattle.decoder.proofs.put_lines.Statement.{statement}
 use Rattle.decoder.proofs.put_lines.Tie as tie
 
 abbrev Inv-loop : tie.InvT-loop
-Inv-loop table text from out₀ end₀ groups₀ last₀ out end groups last =
-    DecodedLines text false out₀ out from end groups last × LinesInside text from end groups last
+Inv-loop table text from out₀ end₀ groups₀ last₀ lf₀ crlf₀ out end groups last lf crlf =
+    DecodedLines text false out₀ out from end groups last lf crlf × LinesInside text from end groups last lf crlf
 
 abbrev μ-loop : tie.MeasureT-loop
-μ-loop table text from out₀ end₀ groups₀ last₀ out end groups last = length text - end
+μ-loop table text from out₀ end₀ groups₀ last₀ lf₀ crlf₀ out end groups last lf crlf = length text - end
 
 put-full-lines-requires : tie.Need-put-full-lines-requires Inv-loop μ-loop
 put-full-lines-requires c κs = search needs
@@ -68,6 +68,23 @@ add-groups c =
     let inv = c .before .before .before .before .before .before .before .before .before .loop .inv .1 in
     record { fits = omega (arith, inv .few, inv .inside, c .before .before .before .before .before .before .put-run .ensures .stands, c .before .before .before .before .before .before .before .before .before .before .before .before .before .before .before .before .good) }
 
+sub-lf : tie.Need-sub-lf Inv-loop μ-loop
+sub-lf c = line-end-width (c .before .before .line-end-at .ensures)
+
+add-lf : tie.Need-add-lf Inv-loop μ-loop
+add-lf c =
+    let inv = c .before .before .before .before .before .before .before .before .before .loop .inv .1 in
+    record { fits = omega (arith, inv .few, inv .inside, c .before .before .before .before .before .before .before .before .before .before .before .before .before .before .before .before .good) }
+
+sub-crlf : tie.Need-sub-crlf Inv-loop μ-loop
+sub-crlf c = omega arith
+
+add-crlf : tie.Need-add-crlf Inv-loop μ-loop
+add-crlf c =
+    let inv = c .before .before .before .before .before .before .before .before .before .loop .inv .1 in
+    let width = line-end-width (c .before .before .line-end-at .ensures) in
+    record { fits = omega (arith, inv .few, inv .inside, width, c .before .before .before .before .before .before .before .before .before .before .before .before .before .before .before .before .good) }
+
 loop-less : tie.Need-loop-less Inv-loop μ-loop
 loop-less c =
     let blanks = c .before .before .before .blanks-end .ensures in
@@ -107,6 +124,10 @@ put-lines-spec =
     returns-2
     add-end
     add-groups
+    sub-lf
+    add-lf
+    sub-crlf
+    add-crlf
     loop-less
     loop-again
     same-length-3

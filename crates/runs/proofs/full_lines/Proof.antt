@@ -6,16 +6,17 @@ use lib.ListN.{length}
 use borrow.Author.Needs.{needs}
 use borrow.Author.Tests.{not-false}
 use Rattle.runs.specs.Runs.{LinesTo, no-lines}
-use Rattle.runs.proofs.Runs.{line-end-inside}
+use Rattle.runs.proofs.Runs.{line-end-inside, line-end-width}
 use Rattle.runs.proofs.Lined.{LinesInside, inside-none, lines-inside, full-more}
 use Rattle.runs.proofs.full_lines.Statement.{statement}
 use Rattle.runs.proofs.full_lines.Tie as tie
 
 abbrev Inv-loop : tie.InvT-loop
-Inv-loop text from end₀ groups₀ last₀ end groups last = LinesTo text true from end groups last × LinesInside text from end groups last
+Inv-loop text from end₀ groups₀ last₀ lf₀ crlf₀ end groups last lf crlf =
+    LinesTo text true from end groups last lf crlf × LinesInside text from end groups last lf crlf
 
 abbrev μ-loop : tie.MeasureT-loop
-μ-loop text from end₀ groups₀ last₀ end groups last = length text - end
+μ-loop text from end₀ groups₀ last₀ lf₀ crlf₀ end groups last lf crlf = length text - end
 
 loop-holds : tie.Need-loop-holds Inv-loop μ-loop
 loop-holds c = (no-lines, inside-none (c .before .pre))
@@ -51,6 +52,23 @@ add-groups c =
     let inv = c .before .before .before .before .before .loop .inv .1 in
     record { fits = omega (arith, inv .few, inv .inside, c .before .before .before .before .before .before .before .good) }
 
+sub-lf : tie.Need-sub-lf Inv-loop μ-loop
+sub-lf c = omega (arith, line-end-width (c .before .line-end-at .ensures))
+
+add-lf : tie.Need-add-lf Inv-loop μ-loop
+add-lf c =
+    let inv = c .before .before .before .before .before .loop .inv .1 in
+    record { fits = omega (arith, inv .few, inv .inside, c .before .before .before .before .before .before .before .good) }
+
+sub-crlf : tie.Need-sub-crlf Inv-loop μ-loop
+sub-crlf c = omega arith
+
+add-crlf : tie.Need-add-crlf Inv-loop μ-loop
+add-crlf c =
+    let inv = c .before .before .before .before .before .loop .inv .1 in
+    let width = line-end-width (c .before .line-end-at .ensures) in
+    record { fits = omega (arith, inv .few, inv .inside, width, c .before .before .before .before .before .before .before .good) }
+
 loop-less : tie.Need-loop-less Inv-loop μ-loop
 loop-less c = omega arith
 
@@ -81,6 +99,10 @@ full-lines-spec =
     add-last
     add-end
     add-groups
+    sub-lf
+    add-lf
+    sub-crlf
+    add-crlf
     loop-less
     loop-again
     returns-3)

@@ -38,7 +38,7 @@ returns c =
     let lines = c .before .before .before .before .full-lines in
     let passed = c .before .before .before .behind-lines in
     let first = start .args .first in
-    let phase = behind-phase first (start .args .counted) (start .args .behind) (start .args .from) (lines .result .end) (lines .result .groups) (lines .result .last) (passed .result) (passed .ensures) in
+    let phase = behind-phase first (start .args .counted) (start .args .behind) (start .args .from) (lines .result .end) (lines .result .groups) (lines .result .last) (lines .result .lf) (lines .result .crlf) (passed .result) (passed .ensures) in
     λ g l.
     advanced-then
     (lines-passed (any-line-from l) (any-line-from (phases-behind l)) (start .pre .1 .0) (first .cr) (start .args .counted) (lines .ensures) (passed .result) (passed .ensures))

@@ -32,17 +32,16 @@ byte-part-requires c κs = search needs
 add-t17 : tie.Need-add-t17
 add-t17 c = search needs
 
-kind-of-requires : tie.Need-kind-of-requires
-kind-of-requires c κs = search needs
-
-tally-byte-requires : tie.Need-tally-byte-requires
-tally-byte-requires c κs = omega (arith, c .before .before .before .before .before .before .before .before .before .pre .2, c .before .before .before .before .before .before .before .before .before .good)
+count-byte-requires : tie.Need-count-byte-requires
+count-byte-requires c κs =
+    let start = c .before .before .before .before .before .before .before .before in
+    (start .pre .0, omega (arith, start .pre .2, start .good), omega (arith, start .pre .2, start .good))
 
 returns-2 : tie.Need-returns-2
 returns-2 c =
-    let start = c .before .before .before .before .before .before .before .before .before .before in (
-      advanced-byte (start .args .state) (start .args .tally) (start .args .at) _ _ (start .pre .1) (sym (c .before .before .before .before .before .before .before .step .ensures)) (sym (c .before .before .before .before .before .before .is-dead .ensures) ∙ c .before .before .before .before .before .if1 .left)
-          (c .tally-byte .ensures ∙ rw (c .before .kind-of .ensures, c .before .before .byte-part .ensures, c .before .before .before .before .part-of .ensures, c .before .before .before .part-of2 .ensures)),
+    let start = c .before .before .before .before .before .before .before .before .before in (
+      advanced-byte (start .args .state) (start .args .tally) (start .args .at) _ _ (start .pre .1) (sym (c .before .before .before .before .before .before .step .ensures)) (sym (c .before .before .before .before .before .is-dead .ensures) ∙ c .before .before .before .before .if1 .left)
+          (c .count-byte .ensures ∙ rw (c .before .byte-part .ensures, c .before .before .before .part-of .ensures, c .before .before .part-of2 .ensures)),
       λ e. absurd (omega arith),
     )
 
@@ -58,6 +57,5 @@ advance-byte-spec =
     part-of-requires-2
     byte-part-requires
     add-t17
-    kind-of-requires
-    tally-byte-requires
+    count-byte-requires
     returns-2)

@@ -2,6 +2,7 @@
 use Prim.Native.Nat.{_-_, _≤_, _<_}
 use native.Mathlib.Omega.{arith}
 use lib.ListN.{length}
+use Rattle.runs.proofs.Runs.{line-end-width}
 use Rattle.scanner.proofs.Walks.{Walk, walk-start, walk-inside, walk-open, walk-paused, walk-resumed, walk-ended}
 use borrow.Author.Tests.{not-false}
 use borrow.Author.Needs.{needs}
@@ -62,16 +63,28 @@ tally-line-requires c κs =
     let countable = turn here .loop .inv .countable in
     (omega (arith, countable, inside here, line .more, line .ends), omega (arith, countable, inside here), omega (arith, some here))
 
+sub-tally-width : tie.Need-sub-tally-width Inv-loop μ-loop
+sub-tally-width c = search needs
+
+tally-width-requires : tie.Need-tally-width-requires Inv-loop μ-loop
+tally-width-requires c κs =
+    let told = c .before .before .before in
+    let here = some-read told in
+    let line = read here .line-at .ensures in
+    let width = line-end-width (line .lineEnd) in
+    rw (told .tally-line .ensures)
+    (omega arith, width, omega (arith, turn here .loop .inv .countable, inside here, some here, line .more, line .ends, width))
+
 loop-less : tie.Need-loop-less Inv-loop μ-loop
 loop-less c =
-    let here = some-read (c .before .before) in
+    let here = some-read (c .before .before .before .before) in
     omega (arith, further here, inside here)
 
 loop-again : tie.Need-loop-again Inv-loop μ-loop
 loop-again c =
-    let told = c .before .before in
+    let told = c .before .before .before .before in
     let here = some-read told in
-    rw (told .tally-line .ensures) (walk-ended (turn here .loop .inv) (read here .line-at .ensures) (some here) (omega arith))
+    rw (c .tally-width .ensures, told .tally-line .ensures) (walk-ended (turn here .loop .inv) (read here .line-at .ensures) (some here) (omega arith))
 
 at-phase-requires : tie.Need-at-phase-requires Inv-loop μ-loop
 at-phase-requires c κs = search needs
@@ -121,6 +134,8 @@ advance-lines-spec =
     sub-tally-line
     sub-tally-line-2
     tally-line-requires
+    sub-tally-width
+    tally-width-requires
     loop-less
     loop-again
     at-phase-requires

@@ -2,7 +2,7 @@
 use mathlib.Core.Path.{sym, _∙_}
 use native.Mathlib.Omega.{arith}
 use borrow.Author.Needs.{needs}
-use Rattle.runs.proofs.Runs.{line-end-inside}
+use Rattle.runs.proofs.Runs.{line-end-inside, line-end-width}
 use Rattle.scanner.proofs.Advances.{pads-line-end}
 use Rattle.scanner.proofs.advance_pads.Statement.{statement}
 use Rattle.scanner.proofs.advance_pads.Tie as tie
@@ -56,18 +56,27 @@ add-at-phase-2 c =
     let inside = line-end-inside (c .before .before .before .before .before .before .line-end-at .ensures) (c .before .before .before .before .before .before .before .before .pads-at .ensures .1) in
     record { fits = omega (arith, inside, c .before .before .before .before .before .before .before .before .before .before .good) }
 
+tally-width-requires : tie.Need-tally-width-requires
+tally-width-requires c κs =
+    let start = c .before .before .before .before .before .before .before .before .before .before in
+    let pads = c .before .before .before .before .before .before .before .before .pads-at .ensures in
+    let end = c .before .before .before .before .before .before .line-end-at .ensures in
+    let inside = line-end-inside end (pads .1) in
+    let few = line-end-width end in
+    rw (c .tally-others .ensures, c .before .tally-pads .ensures) (omega arith, few, omega (arith, start .pre, inside, few))
+
 at-phase-requires : tie.Need-at-phase-requires
 at-phase-requires c κs = search needs
 
 returns-4 : tie.Need-returns-4
 returns-4 c =
-    let start = c .before .before .before .before .before .before .before .before .before .before .before in
-    let pads = c .before .before .before .before .before .before .before .before .before .pads-at in
-    let end = c .before .before .before .before .before .before .before .line-end-at in
-    let alive = sym (c .before .before .before .before .is-dead .ensures) ∙ c .before .before .before .if3 .left in
+    let start = c .before .before .before .before .before .before .before .before .before .before .before .before in
+    let pads = c .before .before .before .before .before .before .before .before .before .before .pads-at in
+    let end = c .before .before .before .before .before .before .before .before .line-end-at in
+    let alive = sym (c .before .before .before .before .before .is-dead .ensures) ∙ c .before .before .before .before .if3 .left in
     λ g.
-    rw (c .at-phase .ensures, c .before .tally-others .ensures, c .before .before .tally-pads .ensures)
-    (pads-line-end (c .before .before .before .before .before .padded .ensures alive g) (start .args .state .cr) (start .args .tally) (start .args .at) (end .result) (pads .ensures .1) (pads .ensures .2) (end .ensures) (omega arith))
+    rw (c .at-phase .ensures, c .before .tally-width .ensures, c .before .before .tally-others .ensures, c .before .before .before .tally-pads .ensures)
+    (pads-line-end (c .before .before .before .before .before .before .padded .ensures alive g) (start .args .state .cr) (start .args .tally) (start .args .at) (end .result) (pads .ensures .1) (pads .ensures .2) (end .ensures) (omega (arith, c .before .before .before .before .before .before .before .if2 .left)))
 
 pub advance-pads-spec : {M : Type 1} → statement M
 advance-pads-spec =
@@ -88,5 +97,6 @@ advance-pads-spec =
     tally-others-requires
     add-at-phase
     add-at-phase-2
+    tally-width-requires
     at-phase-requires
     returns-4)

@@ -42,7 +42,7 @@ returns c =
     λ g w.
     let all = strict-lines w in
     let there = lines-passed (full-line-from (all .first)) (full-line-from (all .again)) (start .pre .1 .0) (first .cr) (start .args .counted) (lines .ensures) (passed .result) (passed .ensures) in
-    advanced-then there (c .advance-in-line .ensures g (begins g w (behind-phase first (start .args .counted) (Strict Line) (start .args .from) (lines .result .end) (lines .result .groups) (lines .result .last) (passed .result) (passed .ensures))))
+    advanced-then there (c .advance-in-line .ensures g (begins g w (behind-phase first (start .args .counted) (Strict Line) (start .args .from) (lines .result .end) (lines .result .groups) (lines .result .last) (lines .result .lf) (lines .result .crlf) (passed .result) (passed .ensures))))
 
 pub advance-strict-lines-spec : {M : Type 1} → statement M
 advance-strict-lines-spec =

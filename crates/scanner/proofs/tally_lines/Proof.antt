@@ -25,8 +25,11 @@ add-next-3 c = search needs
 sub-next-3 : tie.Need-sub-next-3
 sub-next-3 c = omega (arith, c .before .before .before .before .before .before .pre .0 .4 (c .before .before .before .before .before .before .pre .1))
 
+tally-ends-requires : tie.Need-tally-ends-requires
+tally-ends-requires c κs = c .before .before .before .before .before .before .pre .0 .5
+
 returns : tie.Need-returns
-returns c = search needs
+returns c = c .tally-ends .ensures
 
 pub tally-lines-spec : {M : Type 1} → statement M
 tally-lines-spec =
@@ -39,4 +42,5 @@ tally-lines-spec =
     sub-next-2
     add-next-3
     sub-next-3
+    tally-ends-requires
     returns)
