@@ -117,7 +117,7 @@ fn walk(values: &[u8; 256], text: &[u8], grammar: Grammar, table: &mut [u32]) ->
         let scan = scanner::scan_text(values, text, from, grammar, first);
         let length = scan.length;
         match judge_message(values, text, grammar, from, scan) {
-            Judgement::Sound(layout, size) => {
+            Judgement::Sound(layout, size, _) => {
                 put_entry(table, count, entry_in(from, length, layout, size));
             }
             Judgement::Refused(refusal) => {

@@ -17,12 +17,16 @@ ghost use Rattle.machine.proofs.Machine.{start};
 ghost use Rattle.reading.specs.Answers.{refusalNumber, refusalPlace, numberOf};
 ghost use Rattle.reading.specs.Meaning.{Reads, HandsBack};
 ghost use Rattle.reading.specs.Scan.{noTally, scanOf};
+ghost use Rattle.reading.specs.Ends.{countedStyle};
 ghost use Rattle.reading.specs.Read.{Fits, Lies, spanned, layoutOf, grammarRefusal, labelsAgree, countsFit, lastAt, spareZero, spareClear, judgedParts, judgedScan, judgedBy, judgeOf, answered, readOf, written, outputOf, labelOf};
 use base64::Value;
 use grammar::Grammar;
+use grammar::LineEnding;
+use grammar::LineStyle;
 use grammar::Numbered;
 use grammar::TextOffset;
 use machine::Part;
+use reading::EndCounts;
 use reading::Found;
 use reading::Judgement;
 use reading::LABEL_LIMIT;
@@ -172,6 +176,28 @@ fn spare_clear(
     }
 }
 
+// What the counts of line ends say.
+fn counted_style(ends: EndCounts) -> LineStyle
+    ensures { λ r. ⌜ r ≡ countedStyle ends ⌝ }
+{
+    if ends.lf == 0 {
+        if ends.cr == 0 {
+            return LineStyle::NoLineEnd;
+        }
+        if ends.crlf == 0 {
+            return LineStyle::Only(LineEnding::Cr);
+        }
+        if ends.crlf == ends.cr {
+            return LineStyle::Only(LineEnding::CrLf);
+        }
+        return LineStyle::Mixed;
+    }
+    if ends.cr == 0 {
+        return LineStyle::Only(LineEnding::Lf);
+    }
+    LineStyle::Mixed
+}
+
 // The checks 6 to 9 of a message of the grammar.
 pub fn judge_parts(
     values: &[u8; 256],
@@ -203,7 +229,12 @@ pub fn judge_parts(
         let place = TextOffset(start.0 + tally.last);
         return Judgement::Refused(Refusal::SpareBits(place));
     }
-    Judgement::Sound(layout, base64::decoded_count(tally.characters))
+    let ends = tally.ends;
+    Judgement::Sound(
+        layout,
+        base64::decoded_count(tally.characters),
+        counted_style(ends),
+    )
 }
 
 // The checks 3 to 9 of a text that was scanned from its start.
@@ -294,7 +325,7 @@ fn read_known(text: &[u8], grammar: Grammar, out: &mut [u8]) -> ReadAnswer
     let pass = scanner::scan_decoding(&values, &table, text, grammar, out);
     let scan = pass.scan;
     match judge_scan(&values, text, grammar, scan) {
-        Judgement::Sound(layout, size) => {
+        Judgement::Sound(layout, size, style) => {
             let label = layout.opened;
             let body = layout.body;
             if out.len() < size.0 {
@@ -302,7 +333,7 @@ fn read_known(text: &[u8], grammar: Grammar, out: &mut [u8]) -> ReadAnswer
                 return ReadAnswer::OutputTooSmall(Found { size, label });
             }
             put_body(&values, &table, text, body, pass, out);
-            ReadAnswer::Accepted(Found { size, label })
+            ReadAnswer::Accepted(Found { size, label }, style)
         }
         Judgement::Refused(refusal) => {
             output::clear(out);
@@ -330,7 +361,7 @@ pub fn label(text: &[u8], grammar: u32) -> &[u8]
     ensures { λ r. ⌜ (now r ≡ labelOf (now (text .entry)) grammar) × HandsBack (now (text .entry)) grammar (now r) ⌝ }
 {
     match judge(text, grammar) {
-        Judgement::Sound(layout, _) => {
+        Judgement::Sound(layout, _, _) => {
             let opened = layout.opened;
             part_at(text, opened)
         }
@@ -377,7 +408,7 @@ pub fn answer_number(answer: ReadAnswer) -> u32
     ensures { λ r. ⌜ r ≡ numberOf answer ⌝ }
 {
     match answer {
-        ReadAnswer::Accepted(_) => 0,
+        ReadAnswer::Accepted(_, _) => 0,
         ReadAnswer::Refused(refusal) => refusal_number(refusal),
         ReadAnswer::OutputTooSmall(_) => 10,
     }

@@ -8,6 +8,7 @@ use lib.ListN.{length}
 use borrow.Author.Needs.{needs}
 use Rattle.base64.specs.declared.ByteCount.{ByteCount}
 use Rattle.grammar.specs.declared.Grammar.{Grammar}
+use Rattle.grammar.specs.declared.LineStyle.{LineStyle}
 use Rattle.machine.proofs.Machine.{later}
 use Rattle.machine.specs.declared.State.{State}
 use Rattle.reading.specs.Limits.{textLimit}
@@ -34,18 +35,18 @@ judged g text first at s j k scanned same told = sym (ap (judgedMessage g text a
 
 -- What a turn has to know of a message that passed.
 entry-fits : {g : Grammar} {text : List ℕ} {first : State} {at count : ℕ} {table : List ℕ} → Reached g text first at count table → at < length text → length text ≤ textLimit
-    → (s : Scan) → s ≡ scanFrom g text at first → (l : Layout) (size : ByteCount) → judgedMessage g text at (scanFrom g text at first) ≡ Sound l size
+    → (s : Scan) → s ≡ scanFrom g text at first → (l : Layout) (size : ByteCount) (style : LineStyle) → judgedMessage g text at (scanFrom g text at first) ≡ Sound l size style
     → Holdable (entryIn at (s .length) l size) × (0 < s .length) × (at + s .length ≤ length text)
-entry-fits {g} {text} {first} {at} reached h short s scanned l size sound =
-    rw scanned (sound-holdable g text at first (reached .isStart) (reached .within) short l size sound)
+entry-fits {g} {text} {first} {at} reached h short s scanned l size style sound =
+    rw scanned (sound-holdable g text at first (reached .isStart) (reached .within) short l size style sound)
 
 -- What a turn leaves behind a message that passed.
 turned : {g : Grammar} {text : List ℕ} {first : State} {at count : ℕ} {table : List ℕ} → Reached g text first at count table → at < length text
-    → (s : Scan) → s ≡ scanFrom g text at first → (l : Layout) (size : ByteCount) → judgedMessage g text at (scanFrom g text at first) ≡ Sound l size
+    → (s : Scan) → s ≡ scanFrom g text at first → (l : Layout) (size : ByteCount) (style : LineStyle) → judgedMessage g text at (scanFrom g text at first) ≡ Sound l size style
     → (e : Entry) → e ≡ entryIn at (s .length) l size → (next : State) → next ≡ later → (t : List ℕ) → t ≡ entered table count e
     → Reached g text next (at + s .length) (count + 1) t
-turned reached h s scanned l size sound e entry next start t filled =
-    rw (filled, entry, start, scanned) (reached-next reached h l size sound)
+turned reached h s scanned l size style sound e entry next start t filled =
+    rw (filled, entry, start, scanned) (reached-next reached h l size style sound)
 
 abbrev in-turn : tie.After-layout Inv-loop μ-loop → tie.In-loop Inv-loop μ-loop
 in-turn c = c .before .before .before .before
@@ -57,7 +58,7 @@ began c = c .before .before .before .before .before
 sound : (c : tie.After-layout Inv-loop μ-loop)
     → judgedMessage (began (in-turn c) .args .grammar) (began (in-turn c) .args .text .now) (in-turn c .before .loop .at)
     (scanFrom (began (in-turn c) .args .grammar) (began (in-turn c) .args .text .now) (in-turn c .before .loop .at) (in-turn c .before .loop .first))
-    ≡ Sound (c .layout .given .0 .0) (c .layout .given .0 .1 .0)
+    ≡ Sound (c .layout .given .0 .0) (c .layout .given .0 .1 .0) (c .layout .given .0 .1 .1 .0)
 sound c = judged _ _ _ _ _ _ _ (c .before .before .before .scan-text .ensures) (c .before .before .judge-message .ensures) (c .layout .given .1)
 
 -- So its numbers can be held, and its end is further on in the text.
@@ -66,7 +67,7 @@ fits : (c : tie.After-layout Inv-loop μ-loop)
     × (0 < c .before .before .before .scan-text .result .length)
     × (in-turn c .before .loop .at + c .before .before .before .scan-text .result .length ≤ length (began (in-turn c) .args .text .now))
 fits c =
-    entry-fits (in-turn c .before .loop .inv .1) (in-turn c .loop-test .taken) (began (in-turn c) .pre .1) _ (c .before .before .before .scan-text .ensures) _ _ (sound c)
+    entry-fits (in-turn c .before .loop .inv .1) (in-turn c .loop-test .taken) (began (in-turn c) .pre .1) _ (c .before .before .before .scan-text .ensures) _ _ _ (sound c)
 
 start-requires : tie.Need-start-requires Inv-loop μ-loop
 start-requires c κs = search needs
@@ -143,6 +144,7 @@ loop-again c =
           (in-loop .loop-test .taken)
           _
           (told .before .before .before .scan-text .ensures)
+          _
           _
           _
           (sound told)

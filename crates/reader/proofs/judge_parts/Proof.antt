@@ -47,8 +47,8 @@ returns-3 c = rw (short (c .before .before .before .before .before), agreed (c .
 spare-clear-requires : tie.Need-spare-clear-requires
 spare-clear-requires c κs = search needs
 
-add-t19 : tie.Need-add-t19
-add-t19 c = search needs
+add-t20 : tie.Need-add-t20
+add-t20 c = search needs
 
 returns-4 : tie.Need-returns-4
 returns-4 c =
@@ -62,10 +62,13 @@ returns-4 c =
 decoded-count-requires : tie.Need-decoded-count-requires
 decoded-count-requires c κs = search needs
 
+counted-style-requires : tie.Need-counted-style-requires
+counted-style-requires c κs = search needs
+
 returns-5 : tie.Need-returns-5
 returns-5 c =
-    let size : c .decoded-count .result ≡ byteCount _ = ap byteCount (c .decoded-count .ensures) in
-    rw (short (c .before .before .before .before .before .before .before), agreed (c .before .before .before .before .before), fitted (c .before .before .before), cleared (c .before), size)
+    let size : c .before .decoded-count .result ≡ byteCount _ = ap byteCount (c .before .decoded-count .ensures) in
+    rw (short (c .before .before .before .before .before .before .before .before .before), agreed (c .before .before .before .before .before .before .before), fitted (c .before .before .before .before .before), cleared (c .before .before .before), size, c .counted-style .ensures)
 
 pub judge-parts-spec : {M : Type 1} → statement M
 judge-parts-spec =
@@ -77,7 +80,8 @@ judge-parts-spec =
     counts-fit-requires
     returns-3
     spare-clear-requires
-    add-t19
+    add-t20
     returns-4
     decoded-count-requires
+    counted-style-requires
     returns-5)

@@ -20,7 +20,7 @@ label-judged text number j judged r e =
 
 judged-sound : (c : tie.After-layout)
     → judgeOf (c .before .before .before .before .args .text .now) (c .before .before .before .before .args .grammar)
-    ≡ Sound (c .layout .given .0 .0) (c .layout .given .0 .1 .0)
+    ≡ Sound (c .layout .given .0 .0) (c .layout .given .0 .1 .0) (c .layout .given .0 .1 .1 .0)
 judged-sound c = sym (c .before .before .judge .ensures) ∙ c .layout .given .1
 
 judge-requires : tie.Need-judge-requires
@@ -30,7 +30,7 @@ enum-known-layout : tie.Need-enum-known-layout
 enum-known-layout c = search needs
 
 part-at-requires : tie.Need-part-at-requires
-part-at-requires c κs = sound-fits _ (c .before .before .before .before .before .before .args .grammar) _ _ (judged-sound (c .before .before)) .0 .0
+part-at-requires c κs = sound-fits _ (c .before .before .before .before .before .before .args .grammar) _ _ _ (judged-sound (c .before .before)) .0 .0
 
 enum-told : tie.Need-enum-told
 enum-told c = search needs

@@ -1,5 +1,5 @@
 -- `reader::read_known` meets its contract. Assumes nothing.
-use Prim.Native.Nat.{ℕ, _-_}
+use Prim.Native.Nat.{ℕ}
 use native.Mathlib.Omega.{arith}
 use lib.ListN.{length}
 use mathlib.Core.Path.{_≡_, refl, sym, ap, _∙_}
@@ -36,7 +36,7 @@ judged-scan : (c : tie.After-judge-scan) → judgedBy (Known (start c .args .gra
 judged-scan c = rw (le-ltb _ _ (tables c .before .before .if1 .left)) (sym (c .judge-scan .ensures ∙ ap (judgedScan (start c .args .grammar) (start c .args .text .now)) (passed c .scan-decoding .ensures .0)))
 
 judged-sound : (c : tie.After-layout)
-    → judgedBy (Known (start (c .before .before) .args .grammar)) (start (c .before .before) .args .text .now) ≡ Sound (c .layout .given .0 .0) (c .layout .given .0 .1 .0)
+    → judgedBy (Known (start (c .before .before) .args .grammar)) (start (c .before .before) .args .text .now) ≡ Sound (c .layout .given .0 .0) (c .layout .given .0 .1 .0) (c .layout .given .0 .1 .1 .0)
 judged-sound c = judged-scan (c .before .before) ∙ c .layout .given .1
 
 judged : (c : tie.After-refusal) → judgedBy (Known (start (c .before .before) .args .grammar)) (start (c .before .before) .args .text .now) ≡ Refused (c .refusal .given .0 .0)
@@ -87,7 +87,7 @@ put-body-requires c κs =
     let told = c .before .before .before .before .before .before .before .before in
     let judging = told .before .before in
     let a = start judging .args in
-    let sound = known-fits (a .grammar) (a .text .now) (told .layout .given .0 .0) (told .layout .given .0 .1 .0) (judged-sound told) in
+    let sound = known-fits (a .grammar) (a .text .now) (told .layout .given .0 .0) (told .layout .given .0 .1 .0) (told .layout .given .0 .1 .1 .0) (judged-sound told) in
     let pass = passed judging .scan-decoding .ensures in
     (tables judging .before .decode-table .ensures, tables judging .group-table .ensures, sound .1, omega (arith, sound .2, pass .1), pass .2, pass .3)
 
@@ -105,7 +105,7 @@ returns-3 c =
     let told = c .before .before .before .before .before .before .before .before .before .before .before in
     let a = start (told .before .before) .args in
     let size = passed (told .before .before) .scan-decoding .ensures .1 in
-    let sound = known-fits (a .grammar) (a .text .now) (told .layout .given .0 .0) (told .layout .given .0 .1 .0) (judged-sound told) in
+    let sound = known-fits (a .grammar) (a .text .now) (told .layout .given .0 .0) (told .layout .given .0 .1 .0) (told .layout .given .0 .1 .1 .0) (judged-sound told) in
     let room = le-ltb (length (a .out .now)) (told .layout .given .0 .1 .0 .0) (omega (arith, c .before .before .before .before .before .before .if2 .left, size)) in
     answer-judged (a .grammar) (a .text .now) (length (a .out .now)) _ (judged-sound told) _ _ (rw room) (c .before .before .put-body .ensures ∙ rw (room, size, sound .2))
 
