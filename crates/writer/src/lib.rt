@@ -1,4 +1,4 @@
-// Writing one message: the checks 11 to 14 and 10, and the strict text with LF line ends.
+// Writing one message: the checks 11 to 14, 20 and 10, and the strict text with line ends of the kind asked.
 // The definitions that the contracts cite stand in the crate `writing`, and those for the steps to a full line in specs/.
 ghost use mathlib.Core.Path.{_≡_};
 ghost use mathlib.Core.List.{_++_};
@@ -7,11 +7,12 @@ ghost use lib.ListN.{length, replicate};
 ghost use Rattle.base64.specs.Values.{DecodeTable};
 ghost use Rattle.base64.specs.Alphabet.{Sextet, alphabet, charOf};
 ghost use Rattle.base64.specs.Groups.{encode};
+ghost use Rattle.grammar.specs.LineEnds.{lineEnd};
 ghost use Rattle.machine.proofs.Machine.{labelEnds};
 ghost use Rattle.reading.specs.Limits.{labelLimit};
 ghost use Rattle.writing.specs.Limits.{dataLimit};
 ghost use Rattle.writing.specs.Answers.{numberOf};
-ghost use Rattle.writing.specs.Text.{lineEnd, inLines, writtenLines, writtenText, writtenSize};
+ghost use Rattle.writing.specs.Text.{inLines, writtenLines, writtenText, writtenSize};
 ghost use Rattle.writing.specs.Meaning.{Writes};
 ghost use Rattle.writing.specs.Write.{isLabel, judgeOf, writeOf, writeOutput};
 ghost use Rattle.writing.proofs.Placed.{placed, Put};
@@ -22,11 +23,14 @@ use base64::GROUP_BYTES;
 use base64::GROUP_CHARS;
 use base64::RADIX;
 use grammar::BEGIN;
+use grammar::CR;
 use grammar::END;
 use grammar::HYPHENS;
 use grammar::LF;
 use grammar::LINE_BYTES;
 use grammar::LINE_CHARS;
+use grammar::LineEnding;
+use grammar::NumberedEnding;
 use machine::LabelPhase;
 use machine::LabelTarget;
 use reading::LABEL_LIMIT;
@@ -76,6 +80,9 @@ const TO_SLASH: u8 = b'/' + PLUS - SLASH - b'+';
 // What a text has beside labels, characters and their line ends: the rest of its boundaries, and the line ends of these.
 const FRAME: usize = 32;
 
+// The line ends of the boundaries.
+const BOUNDARY_ENDS: usize = 2;
+
 // Whether a label may end in this phase.
 fn label_ends(phase: LabelPhase) -> bool
     ensures { λ r. ⌜ r ≡ labelEnds phase ⌝ }
@@ -117,18 +124,23 @@ fn is_label(values: &[u8; 256], label: &[u8]) -> bool
 }
 
 // How many bytes the text of a label and data of these lengths has.
-fn text_size(label: usize, content: usize) -> TextSize
+fn text_size(label: usize, content: usize, style: LineEnding) -> TextSize
     requires { ⌜ (label ≤ labelLimit) × (content ≤ dataLimit) ⌝ }
-    ensures { λ r. ⌜ r .0 ≡ writtenSize label content ⌝ }
+    ensures { λ r. ⌜ r .0 ≡ writtenSize style label content ⌝ }
 {
     let groups = (content + GROUP_BYTES - 1) / GROUP_BYTES;
     let lines = (content + LINE_BYTES - 1) / LINE_BYTES;
-    TextSize(FRAME + 2 * label + GROUP_CHARS * groups + lines)
+    let size = FRAME + 2 * label + GROUP_CHARS * groups + lines;
+    match style {
+        LineEnding::Lf => TextSize(size),
+        LineEnding::CrLf => TextSize(size + (lines + BOUNDARY_ENDS)),
+        LineEnding::Cr => TextSize(size),
+    }
 }
 
-// The checks 11 to 14.
-fn judge(label: &[u8], content: &[u8]) -> Judgement
-    ensures { λ r. ⌜ r ≡ judgeOf (now (label .entry)) (now (content .entry)) ⌝ }
+// The checks 11 to 14 and 20.
+fn judge(label: &[u8], content: &[u8], number: u32) -> Judgement
+    ensures { λ r. ⌜ r ≡ judgeOf (now (label .entry)) (now (content .entry)) number ⌝ }
 {
     if LABEL_LIMIT < label.len() {
         return Judgement::Refused(WriteRefusal::LabelTooLong);
@@ -143,7 +155,12 @@ fn judge(label: &[u8], content: &[u8]) -> Judgement
     if DATA_LIMIT < content.len() {
         return Judgement::Refused(WriteRefusal::DataTooLong);
     }
-    Judgement::Taken(text_size(label.len(), content.len()))
+    match LineEnding::from_number(number) {
+        NumberedEnding::Known(style) => {
+            Judgement::Taken(style, text_size(label.len(), content.len(), style))
+        }
+        NumberedEnding::Unknown => Judgement::Refused(WriteRefusal::UnknownStyle),
+    }
 }
 
 // Each of the functions below that writes from a place on answers where what it wrote ends.
@@ -162,33 +179,46 @@ fn put_bytes(out: &mut [u8], at: usize, bytes: &[u8]) -> usize
 }
 
 // Writes a line end.
-fn put_end(out: &mut [u8], at: usize) -> usize
-    requires { ⌜ at + length lineEnd ≤ length (now out) ⌝ }
-    ensures { λ r. ⌜ Put (now (out .entry)) at lineEnd (now (out .exit)) r ⌝ }
+fn put_end(out: &mut [u8], at: usize, style: LineEnding) -> usize
+    requires { ⌜ at + length (lineEnd style) ≤ length (now out) ⌝ }
+    ensures { λ r. ⌜ Put (now (out .entry)) at (lineEnd style) (now (out .exit)) r ⌝ }
 {
-    out[at] = LF;
-    at + 1
+    match style {
+        LineEnding::Lf => {
+            out[at] = LF;
+            at + 1
+        }
+        LineEnding::CrLf => {
+            out[at] = CR;
+            out[at + 1] = LF;
+            at + 2
+        }
+        LineEnding::Cr => {
+            out[at] = CR;
+            at + 1
+        }
+    }
 }
 
 // Writes a boundary and its line end.
-fn put_boundary(out: &mut [u8], at: usize, word: &[u8], label: &[u8]) -> usize
-    requires { ⌜ at + length (boundaryLine (now word) (now label)) ≤ length (now out) ⌝ }
-    ensures { λ r. ⌜ Put (now (out .entry)) at (boundaryLine (now (word .entry)) (now (label .entry))) (now (out .exit)) r ⌝ }
+fn put_boundary(out: &mut [u8], at: usize, word: &[u8], label: &[u8], style: LineEnding) -> usize
+    requires { ⌜ at + length (boundaryLine style (now word) (now label)) ≤ length (now out) ⌝ }
+    ensures { λ r. ⌜ Put (now (out .entry)) at (boundaryLine style (now (word .entry)) (now (label .entry))) (now (out .exit)) r ⌝ }
 {
     let hyphens = HYPHENS;
     let behind_word = put_bytes(out, at, word);
     let behind_label = put_bytes(out, behind_word, label);
     let behind_hyphens = put_bytes(out, behind_label, &hyphens);
-    put_end(out, behind_hyphens)
+    put_end(out, behind_hyphens, style)
 }
 
 // Before a further character: a full line ends, and another begins.
-fn break_line(out: &mut [u8], at: usize, room: usize) -> Cursor
-    requires { ⌜ at + length (lineBreak room) ≤ length (now out) ⌝ }
-    ensures { λ r. ⌜ Put (now (out .entry)) at (lineBreak room) (now (out .exit)) (r .at) × (r .room ≡ roomThen room) ⌝ }
+fn break_line(out: &mut [u8], at: usize, room: usize, style: LineEnding) -> Cursor
+    requires { ⌜ at + length (lineBreak style room) ≤ length (now out) ⌝ }
+    ensures { λ r. ⌜ Put (now (out .entry)) at (lineBreak style room) (now (out .exit)) (r .at) × (r .room ≡ roomThen room) ⌝ }
 {
     if room == 0 {
-        let next = put_end(out, at);
+        let next = put_end(out, at, style);
         return Cursor {
             at: next,
             room: LINE_CHARS,
@@ -210,11 +240,11 @@ fn put_four(out: &mut [u8], at: usize, group: [u8; 4]) -> usize
 }
 
 // Writes a group of four characters, on a new line where the line is full.
-fn put_group(out: &mut [u8], at: usize, room: usize, group: [u8; 4]) -> Cursor
-    requires { ⌜ WholeGroups room × (at + length (groupText room group) ≤ length (now out)) ⌝ }
-    ensures { λ r. ⌜ Put (now (out .entry)) at (groupText room group) (now (out .exit)) (r .at) × (r .room ≡ roomThen room - groupChars) ⌝ }
+fn put_group(out: &mut [u8], at: usize, room: usize, group: [u8; 4], style: LineEnding) -> Cursor
+    requires { ⌜ WholeGroups room × (at + length (groupText style room group) ≤ length (now out)) ⌝ }
+    ensures { λ r. ⌜ Put (now (out .entry)) at (groupText style room group) (now (out .exit)) (r .at) × (r .room ≡ roomThen room - groupChars) ⌝ }
 {
-    let cursor = break_line(out, at, room);
+    let cursor = break_line(out, at, room, style);
     let start = cursor.at;
     let end = put_four(out, start, group);
     Cursor {
@@ -224,21 +254,34 @@ fn put_group(out: &mut [u8], at: usize, room: usize, group: [u8; 4]) -> Cursor
 }
 
 // Writes the last bytes of the data, fewer than three, and the line end of the last line.
-fn put_last_line(table: &[u8; 64], rest: &[u8], out: &mut [u8], at: usize, room: usize) -> usize
-    requires { ⌜ (now table ≡ alphabet) × (length (now rest) < 3) × WholeGroups room × (at + length (inLines room (encode (now rest))) ≤ length (now out)) ⌝ }
-    ensures { λ r. ⌜ Put (now (out .entry)) at (inLines room (encode (now (rest .entry)))) (now (out .exit)) r ⌝ }
+fn put_last_line(
+    table: &[u8; 64],
+    rest: &[u8],
+    out: &mut [u8],
+    at: usize,
+    room: usize,
+    style: LineEnding,
+) -> usize
+    requires { ⌜ (now table ≡ alphabet) × (length (now rest) < 3) × WholeGroups room × (at + length (inLines style room (encode (now rest))) ≤ length (now out)) ⌝ }
+    ensures { λ r. ⌜ Put (now (out .entry)) at (inLines style room (encode (now (rest .entry)))) (now (out .exit)) r ⌝ }
 {
     if rest.len() == 1 {
-        let cursor = put_group(out, at, room, base64::encode_one(table, rest[0]));
+        let cursor = put_group(out, at, room, base64::encode_one(table, rest[0]), style);
         let end = cursor.at;
-        return put_end(out, end);
+        return put_end(out, end, style);
     }
     if rest.len() == 2 {
-        let cursor = put_group(out, at, room, base64::encode_two(table, rest[0], rest[1]));
+        let cursor = put_group(
+            out,
+            at,
+            room,
+            base64::encode_two(table, rest[0], rest[1]),
+            style,
+        );
         let end = cursor.at;
-        return put_end(out, end);
+        return put_end(out, end, style);
     }
-    put_end(out, at)
+    put_end(out, at, style)
 }
 
 // The table of what each byte adds to the number of its group's values.
@@ -352,9 +395,15 @@ fn full_lines(content: usize) -> usize
 
 // Writes so many full lines of the data. The table is bound here, once for all of them, since a constant is stored anew wherever it
 // is named, and only where there are any.
-fn put_full_lines(content: &[u8], lines: usize, out: &mut [u8], from: usize) -> Cursor
-    requires { ⌜ (48 * lines ≤ length (now content)) × (from + length (writtenLines (now content)) ≤ length (now out)) ⌝ }
-    ensures { λ r. ⌜ Lined (now (content .entry)) (now (out .entry)) from (now (out .exit)) r (48 * lines) ⌝ }
+fn put_full_lines(
+    content: &[u8],
+    lines: usize,
+    out: &mut [u8],
+    from: usize,
+    style: LineEnding,
+) -> Cursor
+    requires { ⌜ (48 * lines ≤ length (now content)) × (from + length (writtenLines style (now content)) ≤ length (now out)) ⌝ }
+    ensures { λ r. ⌜ Lined style (now (content .entry)) (now (out .entry)) from (now (out .exit)) r (48 * lines) ⌝ }
 {
     if lines == 0 {
         return Cursor {
@@ -367,7 +416,7 @@ fn put_full_lines(content: &[u8], lines: usize, out: &mut [u8], from: usize) -> 
     let mut room = LINE_CHARS;
     let mut n = 0;
     while n < lines {
-        let cursor = break_line(out, at, room);
+        let cursor = break_line(out, at, room, style);
         let start = cursor.at;
         put_full_line(&table, content, LINE_BYTES * n, out, start);
         at = start + LINE_CHARS;
@@ -378,12 +427,18 @@ fn put_full_lines(content: &[u8], lines: usize, out: &mut [u8], from: usize) -> 
 }
 
 // Writes the lines of the data.
-fn put_lines(table: &[u8; 64], content: &[u8], out: &mut [u8], from: usize) -> usize
-    requires { ⌜ (now table ≡ alphabet) × (from + length (writtenLines (now content)) ≤ length (now out)) ⌝ }
-    ensures { λ r. ⌜ Put (now (out .entry)) from (writtenLines (now (content .entry))) (now (out .exit)) r ⌝ }
+fn put_lines(
+    table: &[u8; 64],
+    content: &[u8],
+    out: &mut [u8],
+    from: usize,
+    style: LineEnding,
+) -> usize
+    requires { ⌜ (now table ≡ alphabet) × (from + length (writtenLines style (now content)) ≤ length (now out)) ⌝ }
+    ensures { λ r. ⌜ Put (now (out .entry)) from (writtenLines style (now (content .entry))) (now (out .exit)) r ⌝ }
 {
     let lines = full_lines(content.len());
-    let cursor = put_full_lines(content, lines, out, from);
+    let cursor = put_full_lines(content, lines, out, from, style);
     let mut at = cursor.at;
     let mut room = cursor.room;
     let mut i = LINE_BYTES * lines;
@@ -393,40 +448,41 @@ fn put_lines(table: &[u8; 64], content: &[u8], out: &mut [u8], from: usize) -> u
             at,
             room,
             base64::encode_three(table, content[i], content[i + 1], content[i + 2]),
+            style,
         );
         at = cursor.at;
         room = cursor.room;
         i += 3;
     }
-    put_last_line(table, &content[i..], out, at, room)
+    put_last_line(table, &content[i..], out, at, room, style)
 }
 
 // Writes the text to the start of `out`, and zeros behind it: of what stood there nothing is left.
-fn put_text(label: &[u8], content: &[u8], out: &mut [u8])
-    requires { ⌜ length (writtenText (now label) (now content)) ≤ length (now out) ⌝ }
-    ensures { λ _. ⌜ now (out .exit) ≡ writtenText (now (label .entry)) (now (content .entry)) ++ replicate (length (now (out .entry)) - length (writtenText (now (label .entry)) (now (content .entry)))) 0 ⌝ }
+fn put_text(label: &[u8], content: &[u8], style: LineEnding, out: &mut [u8])
+    requires { ⌜ length (writtenText style (now label) (now content)) ≤ length (now out) ⌝ }
+    ensures { λ _. ⌜ now (out .exit) ≡ writtenText style (now (label .entry)) (now (content .entry)) ++ replicate (length (now (out .entry)) - length (writtenText style (now (label .entry)) (now (content .entry)))) 0 ⌝ }
 {
     let table = base64::alphabet_table();
     let begin = BEGIN;
     let end = END;
-    let opened = put_boundary(out, 0, &begin, label);
-    let lined = put_lines(&table, content, out, opened);
-    let closed = put_boundary(out, lined, &end, label);
+    let opened = put_boundary(out, 0, &begin, label, style);
+    let lined = put_lines(&table, content, out, opened, style);
+    let closed = put_boundary(out, lined, &end, label, style);
     output::clear_from(out, closed);
 }
 
-// Writes the strict text with LF line ends of a label and data. After `Accepted` the output holds the text and then zeros, after
-// anything else zeros only, whatever it held before. Any bytes may come in, and any length.
-pub fn write(label: &[u8], content: &[u8], out: &mut [u8]) -> WriteAnswer
-    ensures { λ r. ⌜ (r ≡ writeOf (now (label .entry)) (now (content .entry)) (length (now (out .entry)))) × (now (out .exit) ≡ writeOutput (now (label .entry)) (now (content .entry)) (length (now (out .entry)))) × Writes (now (label .entry)) (now (content .entry)) (length (now (out .entry))) r (now (out .exit)) ⌝ }
+// Writes the strict text of a label and data, with line ends of the kind that the number asks for. After `Accepted` the output holds
+// the text and then zeros, after anything else zeros only, whatever it held before. Any bytes may come in, any number and any length.
+pub fn write(label: &[u8], content: &[u8], style: u32, out: &mut [u8]) -> WriteAnswer
+    ensures { λ r. ⌜ (r ≡ writeOf (now (label .entry)) (now (content .entry)) style (length (now (out .entry)))) × (now (out .exit) ≡ writeOutput (now (label .entry)) (now (content .entry)) style (length (now (out .entry)))) × Writes (now (label .entry)) (now (content .entry)) style (length (now (out .entry))) r (now (out .exit)) ⌝ }
 {
-    match judge(label, content) {
-        Judgement::Taken(size) => {
+    match judge(label, content, style) {
+        Judgement::Taken(known, size) => {
             if out.len() < size.0 {
                 output::clear(out);
                 return WriteAnswer::OutputTooSmall(size);
             }
-            put_text(label, content, out);
+            put_text(label, content, known, out);
             WriteAnswer::Accepted(size)
         }
         Judgement::Refused(refusal) => {
@@ -447,6 +503,7 @@ pub fn answer_number(answer: WriteAnswer) -> u32
             WriteRefusal::NotALabel => 12,
             WriteRefusal::NoData => 13,
             WriteRefusal::DataTooLong => 14,
+            WriteRefusal::UnknownStyle => 20,
         },
         WriteAnswer::OutputTooSmall(_) => 10,
     }

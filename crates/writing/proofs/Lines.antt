@@ -1,73 +1,97 @@
--- Characters and pads in lines of 64 are the lines of a strict body with LF line ends, and there are no others.
+-- Characters and pads in lines of 64 are the lines of a strict body with line ends of one kind, and there are no others.
 -- Assumes nothing.
 use mathlib.Core.Path.{_≡_, refl, sym, ap, subst, _∙_}
+use mathlib.Core.Logic.{_≢_, inl, inr}
 use mathlib.Core.Bool.{cond}
-use mathlib.Core.List.{List, [], _∷_, _++_, append-assoc, append-nil}
+use mathlib.Core.List.{List, [], _∷_, _++_, append-assoc, append-nil, head-eq-of-cons-eq}
 use Prim.Native.Nat.{ℕ, zero, suc, _+_, _*_, _-_, _/_, _≤_}
 use native.Mathlib.Omega.{arith}
 use lib.Dec.{eqb, ltb}
 use lib.ListN.{length, replicate, length-append, length-replicate}
 use lib.Seq.{append-snoc}
 use Rattle.base64.specs.Lists.{All}
-use Rattle.base64.specs.Alphabet.{AlphabetChar, alphabet, placeIn, valueOf, radix, pad}
-use Rattle.base64.proofs.Lists.{all-append, all-front, all-back}
-use Rattle.grammar.specs.Marks.{CR, LF, LineEnd, crlf, cr, lf}
+use Rattle.base64.specs.Alphabet.{AlphabetChar, valueOf, radix, pad}
+use Rattle.base64.proofs.Lists.{all-append, all-imp}
+use Rattle.grammar.specs.Marks.{CR, LF, NoLF, LineEnd}
+use Rattle.grammar.specs.LineEnds.{lineEnd}
 use Rattle.grammar.specs.Grammars.{lineChars, Groups, StrictLines}
 use Rattle.grammar.specs.Message.{characters, padCount}
 use Rattle.grammar.specs.Claims.{charsThenPads}
+use Rattle.grammar.specs.declared.LineEnding.{LineEnding}
+use Rattle.grammar.specs.declared.LineEnding.the-variants.{Lf, CrLf, Cr}
+use Rattle.grammar.proofs.Marks.{end-no-alphabet}
+use Rattle.grammar.proofs.LineEnds.{Plain, Alike, alike-skip, alike-end, no-lf-more, style-end, nothing-follows}
 use Rattle.grammar.proofs.Grammars.{groups-length}
 use Rattle.grammar.proofs.Counts.{characters-append, pads-append, characters-alphabet, pads-alphabet, characters-pads, pads-pads, end-counts}
-use Rattle.writing.specs.Text.{lineEnd, inLines}
-use Rattle.writing.specs.Meaning.{LFOnly}
+use Rattle.writing.specs.Text.{inLines, secondBytes}
 
 -- ---- lines
 
 -- What fits on the line stands on it.
-lines-short : (l : List ℕ) (room : ℕ) → length l ≤ room → inLines room l ≡ l ++ lineEnd
+lines-short : (s : LineEnding) (l : List ℕ) (room : ℕ) → length l ≤ room → inLines s room l ≡ l ++ lineEnd s
 unfolding inLines
-lines-short [] room h = refl
-lines-short (c ∷ l) zero h = absurd (omega arith)
-lines-short (c ∷ l) (suc room) h = ap (λ (r : List ℕ). c ∷ r) (lines-short l room (omega arith))
+lines-short s [] room h = refl
+lines-short s (c ∷ l) zero h = absurd (omega arith)
+lines-short s (c ∷ l) (suc room) h = ap (λ (r : List ℕ). c ∷ r) (lines-short s l room (omega arith))
 
 -- What fills the line ends there, where more follows.
-lines-full : (a : List ℕ) (room : ℕ) (c : ℕ) (l : List ℕ) → length a ≡ room
-    → inLines room (a ++ (c ∷ l)) ≡ a ++ (lineEnd ++ inLines lineChars (c ∷ l))
+lines-full : (s : LineEnding) (a : List ℕ) (room : ℕ) (c : ℕ) (l : List ℕ) → length a ≡ room
+    → inLines s room (a ++ (c ∷ l)) ≡ a ++ (lineEnd s ++ inLines s lineChars (c ∷ l))
 unfolding inLines
-lines-full [] zero c l h = refl
-lines-full [] (suc room) c l h = absurd (omega arith)
-lines-full (x ∷ a) zero c l h = absurd (omega arith)
-lines-full (x ∷ a) (suc room) c l h = ap (λ (r : List ℕ). x ∷ r) (lines-full a room c l (omega arith))
+lines-full s [] zero c l h = refl
+lines-full s [] (suc room) c l h = absurd (omega arith)
+lines-full s (x ∷ a) zero c l h = absurd (omega arith)
+lines-full s (x ∷ a) (suc room) c l h = ap (λ (r : List ℕ). x ∷ r) (lines-full s a room c l (omega arith))
+
+-- How many bytes line ends have.
+pub second-add : (s : LineEnding) (m n : ℕ) → secondBytes s (m + n) ≡ secondBytes s m + secondBytes s n
+second-add Lf m n = refl
+second-add CrLf m n = refl
+second-add Cr m n = refl
+
+pub end-length : (s : LineEnding) → length (lineEnd s) ≡ 1 + secondBytes s 1
+end-length Lf = refl
+end-length CrLf = refl
+end-length Cr = refl
 
 -- The line ends: one, and one more for each 64 characters past the room that is left.
-pub length-lines : (l : List ℕ) (room : ℕ) → room ≤ lineChars → length (inLines room l) ≡ length l + (1 + (length l - room + 63) / 64)
+abbrev pub lineCount : ℕ → ℕ → ℕ
+lineCount room n = 1 + (n - room + 63) / 64
+
+pub length-lines : (s : LineEnding) (l : List ℕ) (room : ℕ) → room ≤ lineChars
+    → length (inLines s room l) ≡ length l + (lineCount room (length l) + secondBytes s (lineCount room (length l)))
 unfolding inLines
-length-lines [] room h = omega arith
-length-lines (c ∷ l) zero h =
-    let rest : length (inLines 63 l) ≡ length l + (1 + (length l - 63 + 63) / 64) = length-lines l 63 (omega arith) in
-    omega arith
-length-lines (c ∷ l) (suc room) h =
-    let rest : length (inLines room l) ≡ length l + (1 + (length l - room + 63) / 64) = length-lines l room (omega arith) in
-    omega arith
+length-lines s [] room h =
+    let one : lineCount room 0 ≡ 1 = omega arith in
+    rw one (omega (arith, end-length s))
+length-lines s (c ∷ l) zero h =
+    let rest = length-lines s l 63 (omega arith) in
+    let more : lineCount 0 (suc (length l)) ≡ 1 + lineCount 63 (length l) = omega arith in
+    rw (more, second-add s 1 (lineCount 63 (length l)), length-append) (omega (arith, rest, end-length s))
+length-lines s (c ∷ l) (suc room) h =
+    let rest = length-lines s l room (omega arith) in
+    let same : lineCount (suc room) (suc (length l)) ≡ lineCount room (length l) = omega arith in
+    rw same (omega (arith, rest))
 
 -- Line ends are no characters and no pads.
-pub characters-lines : (l : List ℕ) (room : ℕ) → characters (inLines room l) ≡ characters l
-unfolding characters inLines valueOf placeIn alphabet
-characters-lines [] room = refl
-characters-lines (c ∷ l) zero = ap (λ (r : List ℕ). cond (ltb (valueOf c) radix) (c ∷ r) r) (characters-lines l 63)
-characters-lines (c ∷ l) (suc room) = ap (λ (r : List ℕ). cond (ltb (valueOf c) radix) (c ∷ r) r) (characters-lines l room)
+characters-end : (s : LineEnding) (x : List ℕ) → characters (lineEnd s ++ x) ≡ characters x
+characters-end s x = characters-append (lineEnd s) x ∙ ap (λ (r : List ℕ). r ++ characters x) (end-counts (style-end s nothing-follows) .0)
 
-pub pads-lines : (l : List ℕ) (room : ℕ) → padCount (inLines room l) ≡ padCount l
+pads-end : (s : LineEnding) (x : List ℕ) → padCount (lineEnd s ++ x) ≡ padCount x
+pads-end s x = pads-append (lineEnd s) x ∙ rw (end-counts (style-end s nothing-follows) .1) (omega arith)
+
+pub characters-lines : (s : LineEnding) (l : List ℕ) (room : ℕ) → characters (inLines s room l) ≡ characters l
+unfolding characters inLines
+characters-lines s [] room = end-counts (style-end s nothing-follows) .0
+characters-lines s (c ∷ l) zero =
+    characters-end s (c ∷ inLines s 63 l) ∙ ap (λ (r : List ℕ). cond (ltb (valueOf c) radix) (c ∷ r) r) (characters-lines s l 63)
+characters-lines s (c ∷ l) (suc room) = ap (λ (r : List ℕ). cond (ltb (valueOf c) radix) (c ∷ r) r) (characters-lines s l room)
+
+pub pads-lines : (s : LineEnding) (l : List ℕ) (room : ℕ) → padCount (inLines s room l) ≡ padCount l
 unfolding padCount inLines
-pads-lines [] room = refl
-pads-lines (c ∷ l) zero = ap (λ (n : ℕ). cond (eqb c pad) (suc n) n) (pads-lines l 63)
-pads-lines (c ∷ l) (suc room) = ap (λ (n : ℕ). cond (eqb c pad) (suc n) n) (pads-lines l room)
-
--- What holds of the characters and of LF holds of the lines.
-pub all-lines : (P : ℕ → Type 0) (l : List ℕ) (room : ℕ) → P LF → All P l → All P (inLines room l)
-unfolding inLines
-all-lines P [] room k h = (k, tt)
-all-lines P (c ∷ l) zero k h = (k, (h .0, all-lines P l 63 k (h .1)))
-all-lines P (c ∷ l) (suc room) k h = (h .0, all-lines P l room k (h .1))
+pads-lines s [] room = end-counts (style-end s nothing-follows) .1
+pads-lines s (c ∷ l) zero = pads-end s (c ∷ inLines s 63 l) ∙ ap (λ (n : ℕ). cond (eqb c pad) (suc n) n) (pads-lines s l 63)
+pads-lines s (c ∷ l) (suc room) = ap (λ (n : ℕ). cond (eqb c pad) (suc n) n) (pads-lines s l room)
 
 -- ---- characters and pads in lines are strict lines
 
@@ -91,19 +115,27 @@ groups-of (x ∷ y ∷ z ∷ w ∷ v ∷ r) p zero h l e k = absurd (omega arith
 groups-of (x ∷ y ∷ z ∷ w ∷ v ∷ r) p (suc n) h l e k =
     Groups.more (h .0) (h .1 .0) (h .1 .1 .0) (h .1 .1 .1 .0) (groups-of (v ∷ r) p n (h .1 .1 .1 .1) l (omega arith) (omega arith))
 
+-- An alphabet character is of no line end.
+pub char-plain : (c : ℕ) → AlphabetChar c → Plain c
+char-plain c h = ((λ e. end-no-alphabet (inl e) h), (λ e. end-no-alphabet (inr e) h))
+
+-- What starts with a byte of no line end does not start with LF.
+pub plain-no-lf : (c : ℕ) (l : List ℕ) → Plain c → NoLF (c ∷ l)
+plain-no-lf c l h r q = h .1 (head-eq-of-cons-eq q)
+
 -- Behind the characters a of a line: those still to come, and the pads.
-pub lines-strict : (b : List ℕ) (p room n : ℕ) (a : List ℕ) → All AlphabetChar a → All AlphabetChar b → p ≤ 2 → length a + room ≡ lineChars
-    → length a + (length b + p) ≡ 4 * n → 1 ≤ length a + length b → StrictLines (a ++ inLines room (b ++ replicate p pad))
+pub lines-strict : (s : LineEnding) (b : List ℕ) (p room n : ℕ) (a : List ℕ) → All AlphabetChar a → All AlphabetChar b → p ≤ 2 → length a + room ≡ lineChars
+    → length a + (length b + p) ≡ 4 * n → 1 ≤ length a + length b → StrictLines (a ++ inLines s room (b ++ replicate p pad))
 unfolding inLines
-lines-strict [] p room n a ha hb l e f k =
-    rw (lines-short (replicate p pad) room (rw length-replicate (omega arith)), ← append-assoc a (replicate p pad) lineEnd)
-    (StrictLines.final n (a ++ replicate p pad) lineEnd (groups-of a p n ha l (omega arith) (omega arith)) (omega arith) lf)
-lines-strict (c ∷ b) p zero n a ha hb l e f k =
-    StrictLines.line a lineEnd (c ∷ inLines 63 (b ++ replicate p pad)) ha (omega arith) lf
-    (lines-strict b p 63 (n - 16) (c ∷ []) (hb .0, tt) (hb .1) l (omega arith) (omega arith) (omega arith))
-lines-strict (c ∷ b) p (suc room) n a ha hb l e f k =
-    subst StrictLines (append-snoc a c (inLines room (b ++ replicate p pad)))
-    (lines-strict b p room n (a ++ (c ∷ [])) (all-append AlphabetChar a (c ∷ []) ha (hb .0, tt)) (hb .1) l
+lines-strict s [] p room n a ha hb l e f k =
+    rw (lines-short s (replicate p pad) room (rw length-replicate (omega arith)), ← append-assoc a (replicate p pad) (lineEnd s))
+    (StrictLines.final n (a ++ replicate p pad) (lineEnd s) (groups-of a p n ha l (omega arith) (omega arith)) (omega arith) (style-end s nothing-follows))
+lines-strict s (c ∷ b) p zero n a ha hb l e f k =
+    StrictLines.line a (lineEnd s) (c ∷ inLines s 63 (b ++ replicate p pad)) ha (omega arith) (style-end s (plain-no-lf c _ (char-plain c (hb .0))))
+    (lines-strict s b p 63 (n - 16) (c ∷ []) (hb .0, tt) (hb .1) l (omega arith) (omega arith) (omega arith))
+lines-strict s (c ∷ b) p (suc room) n a ha hb l e f k =
+    subst StrictLines (append-snoc a c (inLines s room (b ++ replicate p pad)))
+    (lines-strict s b p room n (a ++ (c ∷ [])) (all-append AlphabetChar a (c ∷ []) ha (hb .0, tt)) (hb .1) l
     (rw length-append (omega arith)) (rw length-append (omega arith)) (rw length-append (omega arith)))
 
 -- ---- and there are no others
@@ -147,11 +179,21 @@ groups-flat (Groups.more {a} {b} {c} {d} {rest = rest} ha hb hc hd g) =
       rw (characters-append (a ∷ b ∷ c ∷ d ∷ []) rest, characters-alphabet (a ∷ b ∷ c ∷ d ∷ []) h) (omega arith),
     )
 
--- A line end with no CR is LF.
-pub end-lf-only : {e rest : List ℕ} → LineEnd e rest → LFOnly e → e ≡ lineEnd
-end-lf-only crlf h = absurd (h .0 refl)
-end-lf-only (cr k) h = absurd (h .0 refl)
-end-lf-only lf h = refl
+-- Groups have no line ends.
+pub pad-plain : Plain pad
+pad-plain = ((λ (e : pad ≡ CR). omega arith), (λ (e : pad ≡ LF). omega arith))
+
+groups-count : {n : ℕ} {g : List ℕ} → Groups n g → 1 ≤ n
+groups-count (Groups.four ha hb hc hd) = omega arith
+groups-count (Groups.three ha hb hc) = omega arith
+groups-count (Groups.two ha hb) = omega arith
+groups-count (Groups.more ha hb hc hd g) = omega arith
+
+groups-plain : {n : ℕ} {g : List ℕ} → Groups n g → All Plain g
+groups-plain (Groups.four ha hb hc hd) = (char-plain _ ha, (char-plain _ hb, (char-plain _ hc, (char-plain _ hd, tt))))
+groups-plain (Groups.three ha hb hc) = (char-plain _ ha, (char-plain _ hb, (char-plain _ hc, (pad-plain, tt))))
+groups-plain (Groups.two ha hb) = (char-plain _ ha, (char-plain _ hb, (pad-plain, (pad-plain, tt))))
+groups-plain (Groups.more ha hb hc hd g) = (char-plain _ ha, (char-plain _ hb, (char-plain _ hc, (char-plain _ hd, groups-plain g))))
 
 -- Strict lines have two characters at least.
 pub lines-some : {l : List ℕ} → StrictLines l → 2 ≤ length (characters l)
@@ -160,20 +202,43 @@ lines-some (StrictLines.line a e rest ha full he l) =
     rw (characters-append a (e ++ rest), characters-alphabet a ha, length-append) (omega arith)
 
 -- What fills a line ends there, where more follows: here by its length.
-full-then : (a l : List ℕ) → length a ≡ lineChars → 1 ≤ length l → inLines lineChars (a ++ l) ≡ a ++ (lineEnd ++ inLines lineChars l)
-full-then a [] h k = absurd (omega arith)
-full-then a (c ∷ l) h k = lines-full a lineChars c l h
+full-then : (s : LineEnding) (a l : List ℕ) → length a ≡ lineChars → 1 ≤ length l → inLines s lineChars (a ++ l) ≡ a ++ (lineEnd s ++ inLines s lineChars l)
+full-then s a [] h k = absurd (omega arith)
+full-then s a (c ∷ l) h k = lines-full s a lineChars c l h
 
-pub strict-lines-written : {l : List ℕ} → StrictLines l → LFOnly l → inLines lineChars (charsThenPads l) ≡ l
-strict-lines-written (StrictLines.final n g e hg hn he) h =
+-- There is something on strict lines.
+pub lines-any : {l : List ℕ} → StrictLines l → l ≢ []
+unfolding characters
+lines-any {l} h e =
+    let z : 2 ≤ length (characters []) = subst (λ (x : List ℕ). 2 ≤ length (characters x)) e (lines-some h) in
+    omega (arith, z)
+
+-- Before x, which does not start with LF.
+pub strict-lines-written : (s : LineEnding) {l : List ℕ} → StrictLines l → (x : List ℕ) → NoLF x → Alike s (l ++ x)
+    → (inLines s lineChars (charsThenPads l) ≡ l) × Alike s x
+strict-lines-written s (StrictLines.final n g e hg hn he) x nx h =
     let short : length g ≤ lineChars = omega (arith, groups-length hg) in
-    ap (inLines lineChars) (end-back g he ∙ groups-flat hg .0)
-    ∙ lines-short g lineChars short
-    ∙ ap (λ (x : List ℕ). g ++ x) (sym (end-lf-only he (all-back _ g e h)))
-strict-lines-written (StrictLines.line a e rest ha full he l) h =
+    let behind : Alike s (e ++ x) = alike-skip s g (e ++ x) (groups-plain hg) (rw (append-assoc g e x) at h) in
+    let end = alike-end s he x (λ n. nx) behind in (
+      ap (inLines s lineChars) (end-back g he ∙ groups-flat hg .0) ∙ lines-short s g lineChars short ∙ ap (λ (y : List ℕ). g ++ y) (sym (end .0)),
+      end .1,
+    )
+strict-lines-written s (StrictLines.line a e rest ha full he l) x nx h =
     let some : 1 ≤ length (charsThenPads rest) = rw length-append (omega (arith, lines-some l)) in
-    let behind : LFOnly (e ++ rest) = all-back _ a (e ++ rest) h in
-    let end : lineEnd ≡ e = sym (end-lf-only he (all-front _ e rest behind)) in
-    ap (inLines lineChars) (chars-front a (e ++ rest) ha ∙ ap (λ (x : List ℕ). a ++ x) (end-front rest he))
-    ∙ full-then a (charsThenPads rest) full some
-    ∙ λ i. a ++ (end i ++ strict-lines-written l (all-back _ e rest behind) i)
+    let behind : Alike s (e ++ (rest ++ x)) = alike-skip s a (e ++ (rest ++ x)) (all-imp AlphabetChar Plain char-plain a ha) (rw (append-assoc a (e ++ rest) x, append-assoc e rest x) at h) in
+    let end = alike-end s he (rest ++ x) (no-lf-more rest x (lines-any l)) behind in
+    let lines = strict-lines-written s l x nx (end .1) in (
+      ap (inLines s lineChars) (chars-front a (e ++ rest) ha ∙ ap (λ (y : List ℕ). a ++ y) (end-front rest he))
+          ∙ full-then s a (charsThenPads rest) full some
+          ∙ (λ i. a ++ (sym (end .0) i ++ lines .0 i)),
+      lines .1,
+    )
+
+-- Strict lines do not start with LF.
+front-no-lf : (a x : List ℕ) → a ≢ [] → All Plain a → NoLF (a ++ x)
+front-no-lf [] x some h = absurd (some refl)
+front-no-lf (c ∷ a) x some h = plain-no-lf c (a ++ x) (h .0)
+
+pub lines-no-lf : {l : List ℕ} → StrictLines l → NoLF l
+lines-no-lf (StrictLines.final n g e hg hn he) = front-no-lf g e (λ z. omega (arith, groups-length hg, groups-count hg, ap length z)) (groups-plain hg)
+lines-no-lf (StrictLines.line a e rest ha full he l) = front-no-lf a (e ++ rest) (λ z. omega (arith, full, ap length z)) (all-imp AlphabetChar Plain char-plain a ha)

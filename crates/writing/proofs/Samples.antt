@@ -26,31 +26,14 @@ octets-tested (x ∷ l) t = (ltb→lt _ _ (both-left (ltb x 256) (octetsTest l) 
 abbrev Computed : Row → Type 0
 Computed r =
     T (octetsTest (r .content))
-    × (writeOf (r .label) (r .content) (r .room) ≡ r .answer)
-    × (writeOutput (r .label) (r .content) (r .room) ≡ r .output)
+    × (writeOf (r .label) (r .content) (r .style) (r .room) ≡ r .answer)
+    × (writeOutput (r .label) (r .content) (r .style) (r .room) ≡ r .output)
 
 computed-holds : (r : Row) → Computed r → Holds r
-computed-holds r c = rw (c .1, c .2) at (write-means (r .label) (r .content) (r .room) (octets-tested (r .content) (c .0)))
+computed-holds r c = rw (c .1, c .2) at (write-means (r .label) (r .content) (r .style) (r .room) (octets-tested (r .content) (c .0)))
 
 pub samples : Samples
 unfolding inLines labelFrom alphabet valueOf placeIn
 samples =
-    all-imp Computed Holds computed-holds rows (
-      (tt, refl, refl),
-      (
-        (tt, refl, refl),
-        (
-          (tt, refl, refl),
-          (
-            (tt, refl, refl),
-            (
-              (tt, refl, refl),
-              (
-                (tt, refl, refl),
-                ((tt, refl, refl), ((tt, refl, refl), ((tt, refl, refl), ((tt, refl, refl), tt)))),
-              ),
-            ),
-          ),
-        ),
-      ),
-    )
+    all-imp Computed Holds computed-holds rows
+    ((tt, refl, refl), ((tt, refl, refl), ((tt, refl, refl), ((tt, refl, refl), ((tt, refl, refl), ((tt, refl, refl), ((tt, refl, refl), ((tt, refl, refl), ((tt, refl, refl), ((tt, refl, refl), ((tt, refl, refl), ((tt, refl, refl), ((tt, refl, refl), ((tt, refl, refl), ((tt, refl, refl), ((tt, refl, refl), ((tt, refl, refl), ((tt, refl, refl), ((tt, refl, refl), ((tt, refl, refl), ((tt, refl, refl), ((tt, refl, refl), tt))))))))))))))))))))))

@@ -2,7 +2,7 @@
 use Prim.Native.Nat.{ℕ}
 use Rattle.writing.specs.declared.TextSize.{TextSize}
 use Rattle.writing.specs.declared.WriteRefusal.{WriteRefusal}
-use Rattle.writing.specs.declared.WriteRefusal.the-variants.{LabelTooLong, NotALabel, NoData, DataTooLong}
+use Rattle.writing.specs.declared.WriteRefusal.the-variants.{LabelTooLong, NotALabel, NoData, DataTooLong, UnknownStyle}
 use Rattle.writing.specs.declared.WriteAnswer.{WriteAnswer}
 use Rattle.writing.specs.declared.WriteAnswer.the-variants.{Accepted, Refused, OutputTooSmall}
 
@@ -14,6 +14,7 @@ refusalNumber LabelTooLong = 11
 refusalNumber NotALabel = 12
 refusalNumber NoData = 13
 refusalNumber DataTooLong = 14
+refusalNumber UnknownStyle = 20
 
 abbrev pub numberOf : WriteAnswer → ℕ
 numberOf (Accepted size) = 0

@@ -1,29 +1,35 @@
--- What is written: opening, LF, lines of 64 characters, the rest, closing, LF. Assumes nothing.
+-- What is written: opening, line end, lines of 64 characters, the rest, closing, line end; once for all kinds of line ends.
+-- Assumes nothing.
 use mathlib.Core.List.{List, [], _∷_, _++_}
 use Prim.Native.Nat.{ℕ, zero, suc, _+_, _*_, _-_, _/_}
 use Rattle.base64.specs.Groups.{encode}
-use Rattle.grammar.specs.Marks.{LF, opening, closing}
+use Rattle.grammar.specs.Marks.{opening, closing}
+use Rattle.grammar.specs.LineEnds.{lineEnd}
 use Rattle.grammar.specs.Grammars.{lineChars}
-
--- The line end that is written.
-abbrev pub lineEnd : List ℕ
-lineEnd = LF ∷ []
+use Rattle.grammar.specs.declared.LineEnding.{LineEnding}
+use Rattle.grammar.specs.declared.LineEnding.the-variants.{Lf, CrLf, Cr}
 
 -- Characters in lines, the first of which has room for so many more. A full line ends where another character follows, and the
 -- last line ends behind its last character.
-unfoldable pub inLines : ℕ → List ℕ → List ℕ
-inLines room [] = lineEnd
-inLines zero (c ∷ l) = lineEnd ++ (c ∷ inLines (lineChars - 1) l)
-inLines (suc room) (c ∷ l) = c ∷ inLines room l
+unfoldable pub inLines : LineEnding → ℕ → List ℕ → List ℕ
+inLines s room [] = lineEnd s
+inLines s zero (c ∷ l) = lineEnd s ++ (c ∷ inLines s (lineChars - 1) l)
+inLines s (suc room) (c ∷ l) = c ∷ inLines s room l
 
 -- The base 64 text of the data, in lines.
-abbrev pub writtenLines : List ℕ → List ℕ
-writtenLines content = inLines lineChars (encode content)
+abbrev pub writtenLines : LineEnding → List ℕ → List ℕ
+writtenLines s content = inLines s lineChars (encode content)
 
--- The strict text of a label and data, with LF line ends.
-abbrev pub writtenText : List ℕ → List ℕ → List ℕ
-writtenText label content = opening label ++ (lineEnd ++ (writtenLines content ++ (closing label ++ lineEnd)))
+-- The strict text of a label and data, with line ends of one kind.
+abbrev pub writtenText : LineEnding → List ℕ → List ℕ → List ℕ
+writtenText s label content = opening label ++ (lineEnd s ++ (writtenLines s content ++ (closing label ++ lineEnd s)))
 
--- Its length for a label of L and data of n bytes: 32 + 2L + 4⌈n/3⌉ + ⌈n/48⌉.
-abbrev pub writtenSize : (L n : ℕ) → ℕ
-writtenSize L n = 32 + 2 * L + 4 * ((n + 2) / 3) + (n + 47) / 48
+-- The second bytes of so many line ends: one of each under CRLF.
+abbrev pub secondBytes : LineEnding → ℕ → ℕ
+secondBytes Lf n = 0
+secondBytes CrLf n = n
+secondBytes Cr n = 0
+
+-- Its length for a label of L and data of n bytes: 32 + 2L + 4⌈n/3⌉ + ⌈n/48⌉, and under CRLF ⌈n/48⌉ + 2 more.
+abbrev pub writtenSize : LineEnding → (L n : ℕ) → ℕ
+writtenSize s L n = 32 + 2 * L + 4 * ((n + 2) / 3) + (n + 47) / 48 + secondBytes s ((n + 47) / 48 + 2)

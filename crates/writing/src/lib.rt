@@ -2,20 +2,23 @@
 // grammars' relations what a caller gets, and proofs/ that the definitions mean just that, and that reading and writing undo one
 // another. The crate `writer` has the code.
 
+use grammar::LineEnding;
+
 // How many bytes a text has or needs.
 pub struct TextSize(pub usize);
 
-// The refusals 11 to 14 of the requirements, in their order. Their place is always 0.
+// The refusals 11 to 14 and 20 of the requirements, in their order. Their place is always 0.
 pub enum WriteRefusal {
     LabelTooLong,
     NotALabel,
     NoData,
     DataTooLong,
+    UnknownStyle,
 }
 
-// The checks 11 to 14: all passed, and the text has so many bytes; or the first that did not.
+// The checks 11 to 14 and 20: all passed, by these line ends, and the text has so many bytes; or the first that did not.
 pub enum Judgement {
-    Taken(TextSize),
+    Taken(LineEnding, TextSize),
     Refused(WriteRefusal),
 }
 
@@ -23,7 +26,7 @@ pub enum Judgement {
 pub enum WriteAnswer {
     // 0: the output holds the text, and then zeros.
     Accepted(TextSize),
-    // 11 to 14: the output is zeros.
+    // 11 to 14, 20: the output is zeros.
     Refused(WriteRefusal),
     // 10: the output is zeros; the size is what the text needs.
     OutputTooSmall(TextSize),

@@ -4,6 +4,7 @@ use mathlib.Core.Path.{_≡_}
 use Prim.Native.Nat.{_+_}
 use native.Mathlib.Omega.{arith}
 use lib.ListN.{length}
+use Rattle.grammar.specs.LineEnds.{lineEnd}
 use Rattle.writing.proofs.Progress.{boundaryLine, boundary-length, boundary-put}
 use Rattle.writer.proofs.put_boundary.Statement.{statement}
 use Rattle.writer.proofs.put_boundary.Tie as tie
@@ -19,8 +20,8 @@ abbrev labelled : tie.After-put-bytes3 → tie.After-put-bytes2
 labelled c = c .before .before .before .before .before
 
 -- The boundary's length by its parts.
-parts : (c : tie.Start) → length (boundaryLine (c .args .word .now) (c .args .label .now)) ≡ length (c .args .word .now) + (length (c .args .label .now) + 6)
-parts c = boundary-length (c .args .word .now) (c .args .label .now)
+parts : (c : tie.Start) → length (boundaryLine (c .args .style) (c .args .word .now) (c .args .label .now)) ≡ length (c .args .word .now) + (length (c .args .label .now) + (5 + length (lineEnd (c .args .style))))
+parts c = boundary-length (c .args .style) (c .args .word .now) (c .args .label .now)
 
 put-bytes-requires : tie.Need-put-bytes-requires
 put-bytes-requires c κs = omega (arith, parts (c .before .before .before .before))
@@ -55,7 +56,7 @@ returns c =
     let at-label = labelled at-hyphens in
     let at-word = worded at-label in
     let args = start at-word .args in
-    boundary-put (args .word .now) (args .label .now) (start at-word .pre) (omega arith) (omega arith)
+    boundary-put (args .style) (args .word .now) (args .label .now) (start at-word .pre) (omega arith) (omega arith)
     (at-word .put-bytes .ensures) (at-label .put-bytes2 .ensures) (at-hyphens .put-bytes3 .ensures) (c .before .before .put-end .ensures)
 
 pub put-boundary-spec : {M : Type 1} → statement M

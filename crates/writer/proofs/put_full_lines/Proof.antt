@@ -12,16 +12,16 @@ use Rattle.writer.proofs.put_full_lines.Statement.{statement}
 use Rattle.writer.proofs.put_full_lines.Tie as tie
 
 abbrev Inv-loop : tie.InvT-loop
-Inv-loop content lines out₀ from table at₀ room₀ n₀ out at room n = (n ≤ lines) × (length out ≡ length out₀) × ((room ≡ 0) ⊎ (room ≡ lineChars)) × Lined content out₀ from out record { at = at; room = room } (48 * n)
+Inv-loop content lines out₀ from style table at₀ room₀ n₀ out at room n = (n ≤ lines) × (length out ≡ length out₀) × ((room ≡ 0) ⊎ (room ≡ lineChars)) × Lined style content out₀ from out record { at = at; room = room } (48 * n)
 
 abbrev μ-loop : tie.MeasureT-loop
-μ-loop content lines out₀ from table at₀ room₀ n₀ out at room n = lines - n
+μ-loop content lines out₀ from style table at₀ room₀ n₀ out at room n = lines - n
 
 returns : tie.Need-returns Inv-loop μ-loop
 returns c =
     let args = c .before .before .before .args in
     let none : 48 * args .lines ≡ 0 = omega (arith, c .if1 .taken) in
-    rw none (lined-none (args .content .now) (args .out .now) (args .from))
+    rw none (lined-none (args .style) (args .content .now) (args .out .now) (args .from))
 
 values-table-requires : tie.Need-values-table-requires Inv-loop μ-loop
 values-table-requires c κs = search needs
@@ -29,13 +29,13 @@ values-table-requires c κs = search needs
 loop-holds : tie.Need-loop-holds Inv-loop μ-loop
 loop-holds c =
     let args = c .before .before .before .before .args in
-    (omega arith, refl, inr refl, lined-none (args .content .now) (args .out .now) (args .from))
+    (omega arith, refl, inr refl, lined-none (args .style) (args .content .now) (args .out .now) (args .from))
 
 break-line-requires : tie.Need-break-line-requires Inv-loop μ-loop
 break-line-requires c κs =
     let loop = c .before .before in
     let start = loop .before .before .before .before .before in
-    omega (arith, loop .loop .inv .1, line-room (loop .loop .inv .3) (start .pre .1) (omega (arith, start .pre .0)), break-short (loop .loop .room))
+    omega (arith, loop .loop .inv .1, line-room (loop .loop .inv .3) (start .pre .1) (omega (arith, start .pre .0)), break-short (start .args .style) (loop .loop .room))
 
 mul-put-full-line : tie.Need-mul-put-full-line Inv-loop μ-loop
 mul-put-full-line c = search needs
@@ -68,7 +68,7 @@ loop-again c =
     let broken = lined-break (loop .loop .inv .3) (start .pre .1) (omega (arith, start .pre .0)) (loop .loop .inv .2) (c .before .before .before .before .before .before .before .break-line .ensures .0) in
     let line = c .before .before .put-full-line .ensures in
     let next : 48 * loop .loop .n + 48 ≡ 48 * (loop .loop .n + 1) = omega arith in
-    (omega arith, omega (arith, line .size, loop .loop .inv .1), inl refl, rw next at (line .lined (start .args .out .now) (start .args .from) lineChars (start .pre .1) (omega arith) broken))
+    (omega arith, omega (arith, line .size, loop .loop .inv .1), inl refl, rw next at (line .lined (start .args .style) (start .args .out .now) (start .args .from) lineChars (start .pre .1) (omega arith) broken))
 
 same-length : tie.Need-same-length Inv-loop μ-loop
 same-length c = search needs

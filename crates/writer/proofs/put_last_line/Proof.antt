@@ -6,7 +6,8 @@ use Prim.Native.Nat.{ℕ, _+_, _≤_}
 use native.Mathlib.Omega.{arith}
 use lib.ListN.{length}
 use Rattle.base64.specs.Groups.{encode}
-use Rattle.writing.specs.Text.{lineEnd, inLines}
+use Rattle.grammar.specs.LineEnds.{lineEnd}
+use Rattle.writing.specs.Text.{inLines}
 use Rattle.writing.proofs.Placed.{by-places}
 use Rattle.writing.proofs.Progress.{groupText, last-group, last-none, last-room, last-put}
 use Rattle.writer.proofs.put_last_line.Statement.{statement}
@@ -24,21 +25,21 @@ start0 c = c .before .before .before .before
 
 -- The lines that are to come.
 abbrev lines : tie.Start → List ℕ
-lines s = inLines (s .args .room) (encode (s .args .rest .now))
+lines s = inLines (s .args .style) (s .args .room) (encode (s .args .rest .now))
 
-one : (c : tie.After-encode-one) → lines (start1 c) ≡ groupText (start1 c .args .room) (c .encode-one .result) ++ lineEnd
-one c = last-group (start1 c .args .room) _ _ _ _ (start1 c .args .rest .now) (c .encode-one .result) (start1 c .pre .2) (ap encode (by-places (start1 c .args .rest .now) 1 (c .before .before .before .if1 .taken))) (c .encode-one .ensures)
+one : (c : tie.After-encode-one) → lines (start1 c) ≡ groupText (start1 c .args .style) (start1 c .args .room) (c .encode-one .result) ++ lineEnd (start1 c .args .style)
+one c = last-group (start1 c .args .style) (start1 c .args .room) _ _ _ _ (start1 c .args .rest .now) (c .encode-one .result) (start1 c .pre .2) (ap encode (by-places (start1 c .args .rest .now) 1 (c .before .before .before .if1 .taken))) (c .encode-one .ensures)
 
-two : (c : tie.After-encode-two) → lines (start2 c) ≡ groupText (start2 c .args .room) (c .encode-two .result) ++ lineEnd
-two c = last-group (start2 c .args .room) _ _ _ _ (start2 c .args .rest .now) (c .encode-two .result) (start2 c .pre .2) (ap encode (by-places (start2 c .args .rest .now) 2 (c .before .before .before .before .if2 .taken))) (c .encode-two .ensures)
+two : (c : tie.After-encode-two) → lines (start2 c) ≡ groupText (start2 c .args .style) (start2 c .args .room) (c .encode-two .result) ++ lineEnd (start2 c .args .style)
+two c = last-group (start2 c .args .style) (start2 c .args .room) _ _ _ _ (start2 c .args .rest .now) (c .encode-two .result) (start2 c .pre .2) (ap encode (by-places (start2 c .args .rest .now) 2 (c .before .before .before .before .if2 .taken))) (c .encode-two .ensures)
 
-none : (c : tie.Else2) → lines (start0 c) ≡ lineEnd
-none c = last-none (start0 c .args .room) (start0 c .args .rest .now) (start0 c .pre .1) (c .before .if1 .left) (c .if2 .left)
+none : (c : tie.Else2) → lines (start0 c) ≡ lineEnd (start0 c .args .style)
+none c = last-none (start0 c .args .style) (start0 c .args .room) (start0 c .args .rest .now) (start0 c .pre .1) (c .before .if1 .left) (c .if2 .left)
 
 -- They have room.
-room : (s : tie.Start) (group : List ℕ) → lines s ≡ groupText (s .args .room) group ++ lineEnd
-    → s .args .at + length (groupText (s .args .room) group) + length lineEnd ≤ length (s .args .out .now)
-room s group e = last-room (s .args .room) (s .args .at) (s .args .rest .now) group (s .args .out .now) e (s .pre .3)
+room : (s : tie.Start) (group : List ℕ) → lines s ≡ groupText (s .args .style) (s .args .room) group ++ lineEnd (s .args .style)
+    → s .args .at + length (groupText (s .args .style) (s .args .room) group) + length (lineEnd (s .args .style)) ≤ length (s .args .out .now)
+room s group e = last-room (s .args .style) (s .args .room) (s .args .at) (s .args .rest .now) group (s .args .out .now) e (s .pre .3)
 
 shared-slice-read-encode-one : tie.Need-shared-slice-read-encode-one
 shared-slice-read-encode-one c = search needs
@@ -61,7 +62,7 @@ returns : tie.Need-returns
 returns c =
     let grouped = c .before .before .before .before .before .before .before in
     let start = start1 grouped in
-    last-put (start .args .room) (start .args .at) (start .args .rest .now) (grouped .encode-one .result) (start .args .out .now) (one grouped) (start .pre .3)
+    last-put (start .args .style) (start .args .room) (start .args .at) (start .args .rest .now) (grouped .encode-one .result) (start .args .out .now) (one grouped) (start .pre .3)
     (c .before .before .before .before .before .before .put-group .ensures .0) (c .before .before .put-end .ensures)
 
 shared-slice-read-encode-two : tie.Need-shared-slice-read-encode-two
@@ -88,7 +89,7 @@ returns-2 : tie.Need-returns-2
 returns-2 c =
     let grouped = c .before .before .before .before .before .before .before in
     let start = start2 grouped in
-    last-put (start .args .room) (start .args .at) (start .args .rest .now) (grouped .encode-two .result) (start .args .out .now) (two grouped) (start .pre .3)
+    last-put (start .args .style) (start .args .room) (start .args .at) (start .args .rest .now) (grouped .encode-two .result) (start .args .out .now) (two grouped) (start .pre .3)
     (c .before .before .before .before .before .before .put-group2 .ensures .0) (c .before .before .put-end2 .ensures)
 
 put-end-requires-3 : tie.Need-put-end-requires-3

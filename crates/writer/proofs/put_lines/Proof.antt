@@ -12,11 +12,11 @@ use Rattle.writer.proofs.put_lines.Statement.{statement}
 use Rattle.writer.proofs.put_lines.Tie as tie
 
 abbrev Inv-loop : tie.InvT-loop
-Inv-loop table content out₀ from lines at₀ room₀ i₀ out at room i = (i ≤ length content) × (length out ≡ length out₀)
-    × ((old : List ℕ) → from + length (writtenLines content) ≤ length old → Lined content old from out₀ record { at = at₀; room = room₀ } i₀ → Lined content old from out record { at = at; room = room } i)
+Inv-loop table content out₀ from style lines at₀ room₀ i₀ out at room i = (i ≤ length content) × (length out ≡ length out₀)
+    × ((old : List ℕ) → from + length (writtenLines style content) ≤ length old → Lined style content old from out₀ record { at = at₀; room = room₀ } i₀ → Lined style content old from out record { at = at; room = room } i)
 
 abbrev μ-loop : tie.MeasureT-loop
-μ-loop table content out₀ from lines at₀ room₀ i₀ out at room i = length content - i
+μ-loop table content out₀ from style lines at₀ room₀ i₀ out at room i = length content - i
 
 full-lines-requires : tie.Need-full-lines-requires Inv-loop μ-loop
 full-lines-requires c κs = search needs

@@ -23,9 +23,10 @@ lined c = c .before .before .before .before .before
 
 -- The text's length by its parts.
 parts : (s : tie.Start)
-    → length (writtenText (s .args .label .now) (s .args .content .now))
-    ≡ length (boundaryLine begin (s .args .label .now)) + (length (writtenLines (s .args .content .now)) + length (boundaryLine end (s .args .label .now)))
-parts s = text-length (s .args .label .now) (s .args .content .now)
+    → length (writtenText (s .args .style) (s .args .label .now) (s .args .content .now))
+    ≡ length (boundaryLine (s .args .style) begin (s .args .label .now))
+    + (length (writtenLines (s .args .style) (s .args .content .now)) + length (boundaryLine (s .args .style) end (s .args .label .now)))
+parts s = text-length (s .args .style) (s .args .label .now) (s .args .content .now)
 
 alphabet-table-requires : tie.Need-alphabet-table-requires
 alphabet-table-requires c κs = search needs
@@ -66,7 +67,7 @@ returns c =
     let at-lined = lined at-closed in
     let at-opened = opened at-lined in
     let args = start at-opened .args in
-    text-put (args .label .now) (args .content .now) (start at-opened .pre) (omega arith) (omega arith)
+    text-put (args .style) (args .label .now) (args .content .now) (start at-opened .pre) (omega arith) (omega arith)
     (at-opened .put-boundary .ensures) (at-lined .put-lines .ensures) (at-closed .put-boundary2 .ensures) (c .before .before .clear-from .ensures)
 
 pub put-text-spec : {M : Type 1} → statement M
