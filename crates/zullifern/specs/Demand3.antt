@@ -23,5 +23,6 @@ pub record Demand3 : Type 0 where
   -- It answers 0, with the text's index table, exactly when its grammar accepts the text, no label is over 64 bytes, the text is
   -- within the limit and the table fits.
   pub zeroExactly : ZeroExactly
-  -- Whatever two lists of labels and data the writer takes, if their written texts joined are equal, they are the same list.
+  -- Whatever two lists of labels and data the writer takes, if their written texts joined are equal, they are the same list,
+  -- whichever of the three styles each item is written in (K7).
   pub oneList : OneList

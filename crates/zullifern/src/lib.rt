@@ -1,7 +1,7 @@
 // The door of the library: the calls for C and for Rust. Any bytes may come in, any number and any length.
 //
-// Each call fills a report of eight numbers: the answer's number, its place, its size, the label's offset and its length, and
-// three zeros. A slice is handed over as a pointer and a length.
+// Each call fills a report of eight numbers: the answer's number, its place, its size, the label's offset and its length, zero,
+// the style of the line ends, and zero. A slice is handed over as a pointer and a length.
 ghost use mathlib.Core.Path.{_≡_};
 ghost use lib.ListN.{length};
 ghost use Rattle.reading.specs.Answers.{numberOf};
@@ -39,8 +39,8 @@ fn refusal_report(refusal: Refusal) -> [u64; 8]
 }
 
 // The report of a message that was found, under the number 0 or 10.
-fn found_report(number: u64, found: Found) -> [u64; 8]
-    ensures { λ r. ⌜ r ≡ foundReport number found ⌝ }
+fn found_report(number: u64, found: Found, style: u64) -> [u64; 8]
+    ensures { λ r. ⌜ r ≡ foundReport number found style ⌝ }
 {
     let size = found.size;
     let label = found.label;
@@ -52,7 +52,7 @@ fn found_report(number: u64, found: Found) -> [u64; 8]
         at.0 as u64,
         label.length as u64,
         0,
-        0,
+        style,
         0,
     ]
 }
@@ -62,9 +62,9 @@ fn read_report(answer: ReadAnswer) -> [u64; 8]
     ensures { λ r. ⌜ r ≡ readReport answer ⌝ }
 {
     match answer {
-        ReadAnswer::Accepted(found) => found_report(0, found),
+        ReadAnswer::Accepted(found, style) => found_report(0, found, style.number() as u64),
         ReadAnswer::Refused(refusal) => refusal_report(refusal),
-        ReadAnswer::OutputTooSmall(found) => found_report(10, found),
+        ReadAnswer::OutputTooSmall(found) => found_report(10, found, 0),
     }
 }
 
@@ -73,7 +73,7 @@ fn label_report(judgement: Judgement) -> [u64; 8]
     ensures { λ r. ⌜ r ≡ judgedReport judgement ⌝ }
 {
     match judgement {
-        Judgement::Sound(layout, _) => {
+        Judgement::Sound(layout, _, _) => {
             let opened = layout.opened;
             let at = opened.at;
             [0, 0, 0, at.0 as u64, opened.length as u64, 0, 0, 0]
@@ -161,18 +161,19 @@ pub extern "C" fn zullifern_index(
     index::answer_number(answer)
 }
 
-// Writes the strict text with LF line ends of a label and data, and answers the number. After 0 the output holds the text and
-// then zeros, after anything else zeros only, whatever it held before.
+// Writes the strict text of a label and data with line ends of the kind that the style's number asks for, and answers the number.
+// After 0 the output holds the text and then zeros, after anything else zeros only, whatever it held before.
 #[no_mangle]
 pub extern "C" fn zullifern_write(
     label: &[u8],
     content: &[u8],
+    style: u32,
     out: &mut [u8],
     report: &mut [u64; 8],
 ) -> u32
-    ensures { λ r. ⌜ (r ≡ wrote.numberOf (writeOf (now (label .entry)) (now (content .entry)) (length (now (out .entry))))) × (now (report .exit) ≡ writeReport (writeOf (now (label .entry)) (now (content .entry)) (length (now (out .entry))))) × (now (out .exit) ≡ writeOutput (now (label .entry)) (now (content .entry)) (length (now (out .entry)))) × Writes (now (label .entry)) (now (content .entry)) (length (now (out .entry))) (writeOf (now (label .entry)) (now (content .entry)) (length (now (out .entry)))) (now (out .exit)) ⌝ }
+    ensures { λ r. ⌜ (r ≡ wrote.numberOf (writeOf (now (label .entry)) (now (content .entry)) style (length (now (out .entry))))) × (now (report .exit) ≡ writeReport (writeOf (now (label .entry)) (now (content .entry)) style (length (now (out .entry))))) × (now (out .exit) ≡ writeOutput (now (label .entry)) (now (content .entry)) style (length (now (out .entry)))) × Writes (now (label .entry)) (now (content .entry)) style (length (now (out .entry))) (writeOf (now (label .entry)) (now (content .entry)) style (length (now (out .entry)))) (now (out .exit)) ⌝ }
 {
-    let answer = writer::write(label, content, out);
+    let answer = writer::write(label, content, style, out);
     put_report(write_report(answer), report);
     writer::answer_number(answer)
 }

@@ -1,11 +1,18 @@
 -- `zullifern::read_report` meets its contract, arm by arm. Assumes nothing.
-use mathlib.Core.Path.{_∙_}
+use mathlib.Core.Path.{ap, _∙_}
 use borrow.Author.Needs.{needs}
+use Rattle.zullifern.specs.Reports.{foundReport}
 use Rattle.zullifern.proofs.read_report.Statement.{statement}
 use Rattle.zullifern.proofs.read_report.Tie as tie
 
 enum-known-answer : tie.Need-enum-known-answer
 enum-known-answer c = search needs
+
+number-requires : tie.Need-number-requires
+number-requires c κs = search needs
+
+cast-found-report : tie.Need-cast-found-report
+cast-found-report c = search needs
 
 found-report-requires : tie.Need-found-report-requires
 found-report-requires c κs = search needs
@@ -23,7 +30,10 @@ found-report-requires-2 : tie.Need-found-report-requires-2
 found-report-requires-2 c κs = search needs
 
 returns : tie.Need-returns
-returns c = c .found-report .ensures ∙ rw (c .before .before .answer .given .1)
+returns c =
+    c .found-report .ensures
+    ∙ ap (foundReport 0 _) (c .before .number .ensures)
+    ∙ rw (c .before .before .before .answer .given .1)
 
 returns-2 : tie.Need-returns-2
 returns-2 c = c .refusal-report .ensures ∙ rw (c .before .before .answer2 .given .1)
@@ -36,6 +46,8 @@ read-report-spec =
     tie.close
     (tie.spec
     enum-known-answer
+    number-requires
+    cast-found-report
     found-report-requires
     enum-known-answer-2
     refusal-report-requires
