@@ -1,11 +1,16 @@
 """Texts long enough to leap, and damage where a leap begins or ends. A leap is what may be taken at once: a group of
-characters, a block of 16 or of 64, a line with its line end."""
+characters, a block of 16 or of 64, a line with its line end, many such lines; so one line end of another kind stands
+where such a leap begins, goes on and ends."""
 import base64
 import itertools
 
 WIDTHS = range(60, 69)
 # The line ends of a message, by turns.
 ENDS = ((b"\n",), (b"\r\n",), (b"\r",), (b"\n", b"\r\n"), (b"\r", b"\n"))
+# What stands behind all lines but one, and behind that one: line ends, two of them, white that is none, or nothing.
+USUAL = (b"\n", b"\r\n", b"\r", b" ")
+ODD = (b"\n", b"\r\n", b"\r", b"\n\r", b"\r\r\n", b"\v", b" ", b"")
+ODD_WIDTHS, ODD_LINES = (16, 63, 64, 65), (1, 2, 3, 4, 5, 8, 9, 17)
 # Places of a line: the ends of blocks, and those beside them.
 PLACES = (0, 1, 14, 15, 16, 17, 30, 31, 32, 33, 47, 48, 49, 62, 63, 64, 65, 66)
 # Bytes that mean something somewhere, or stand just beside one that does.
@@ -32,6 +37,12 @@ def lined(label, chars, widths, ends, blanks=b""):
     return b"".join(lines), list(itertools.accumulate(map(len, lines[:-1]), initial=0))
 
 
+def but_one(usual, odd, count):
+    """So many ends, all usual but the odd one in each place."""
+    for at in range(count):
+        yield (*[usual] * at, odd, *[usual] * (count - at - 1))
+
+
 def places(text, starts):
     return sorted({start + place for start in starts for place in PLACES if start + place <= len(text)})
 
@@ -53,3 +64,14 @@ def damaged(random):
         yield text
         for at in places(text, starts):
             yield from edited(text, at)
+
+
+def odd_ended(random):
+    """Many lines of one width with ends of one kind but for one, the first and the last among its places."""
+    for width, lines in itertools.product(ODD_WIDTHS, ODD_LINES):
+        widths = [width] * lines
+        chars = characters(random, widths, 4, 2)
+        for usual, odd in itertools.product(USUAL, ODD):
+            # A last line and the boundaries have line ends too.
+            for ends in dict.fromkeys(but_one(usual, odd, lines + 3)):
+                yield lined(b"A", chars, widths, ends)[0]

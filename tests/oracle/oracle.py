@@ -16,6 +16,12 @@ TEXT_LIMIT = 16_777_216
 LABEL_LIMIT = 64
 DATA_LIMIT = 8_388_608
 
+# Styles of line ends, by change request K7: the writer takes the first three, the reader also reports none and mixed.
+NONE, LF, CRLF, CR, MIXED = range(5)
+LINE_ENDS = {LF: b"\n", CRLF: b"\r\n", CR: b"\r"}
+# CR before LF is one line end with it, wherever the two stand.
+STYLES = {LF: re.compile(rb"(?<!\r)\n"), CRLF: re.compile(rb"\r\n"), CR: re.compile(rb"\r(?!\n)")}
+
 
 class Node:
     def __add__(self, other):
@@ -203,16 +209,29 @@ def decoded(chars):
     return (bits >> spare).to_bytes(size, "big"), bits & (1 << spare) - 1
 
 
+def style_of(t):
+    """The style of all line ends of a text."""
+    found = [style for style, pattern in STYLES.items() if pattern.search(t)]
+    if len(found) > 1:
+        return MIXED
+    return found[0] if found else NONE
+
+
 class Answer:
-    def __init__(self, number, place=0, size=0, label_at=0, label_len=0, out=b""):
+    def __init__(self, number, place=0, size=0, label_at=0, label_len=0, out=b"", style=NONE):
         self.number, self.place, self.size = number, place, size
         self.label_at, self.label_len, self.out = label_at, label_len, out
+        self.style = style
 
     def row(self):
         return (self.number, self.place, self.size, self.label_at, self.label_len)
 
+    def report(self):
+        """The eight numbers of a report. No call fills the sixth and the last."""
+        return [*self.row(), 0, self.style, 0]
+
     def __repr__(self):
-        return "%d at %d size %d label %d+%d" % self.row()
+        return "%d at %d size %d label %d+%d style %d" % (*self.row(), self.style)
 
 
 def judged(m, g):
@@ -251,7 +270,7 @@ def read(t, g, room):
     at, length = m.start("opened"), len(m["opened"])
     if len(data) > room:
         return Answer(10, 0, len(data), at, length, zeros)
-    return Answer(0, 0, len(data), at, length, data + bytes(room - len(data)))
+    return Answer(0, 0, len(data), at, length, data + bytes(room - len(data)), style_of(t))
 
 
 def label_part(t, g):
@@ -293,15 +312,15 @@ def index(t, g, room):
     return Answer(0, 0, len(table), out=table + [0] * (room - len(table)))
 
 
-def written(label, data):
-    """The strict text of a label and data, with LF line ends."""
+def written(label, data, style=LF):
+    """The strict text of a label and data, with line ends of the style."""
     chars = base64.b64encode(data)
     lines = [chars[i:i + 64] for i in range(0, len(chars), 64)]
-    return b"\n".join([b"-----BEGIN " + label + b"-----", *lines, b"-----END " + label + b"-----", b""])
+    return LINE_ENDS[style].join([b"-----BEGIN " + label + b"-----", *lines, b"-----END " + label + b"-----", b""])
 
 
-def write(label, data, room):
-    """The answer of the write call for a label, data and a lent output of `room` bytes."""
+def write(label, data, style, room):
+    """The answer of the write call for a label, data, a style and a lent output of `room` bytes."""
     zeros = bytes(room)
     if len(label) > LABEL_LIMIT:
         return Answer(11, out=zeros)
@@ -311,7 +330,9 @@ def write(label, data, room):
         return Answer(13, out=zeros)
     if len(data) > DATA_LIMIT:
         return Answer(14, out=zeros)
-    text = written(label, data)
+    if style not in LINE_ENDS:
+        return Answer(20, out=zeros)
+    text = written(label, data, style)
     if len(text) > room:
         return Answer(10, 0, len(text), out=zeros)
     return Answer(0, 0, len(text), out=text + bytes(room - len(text)))

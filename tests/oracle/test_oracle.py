@@ -93,6 +93,62 @@ for g in (1, 2, 3):
         assert (a.number, a.place) == (want, 11 if want else 0)
 assert read(b"  ", 1, 1).row()[:2] == (3, 2)
 
+
+def ended(*ends):
+    """M with these line ends, or with what else may stand in their places."""
+    return b"".join(line + end for line, end in zip((b"-----BEGIN A-----", b"Zg==", b"-----END A-----"), ends))
+
+
+# Change request K7: for each grammar the style of a text that it accepts, or None.
+ENDS = (b"\n", b"\r\n", b"\r")
+BARE = ended(b"", b"", b"")
+STYLES = [
+    ("LF", M, 1, 1, 1),
+    ("CRLF", M.replace(b"\n", b"\r\n"), 2, 2, 2),
+    ("CR", M.replace(b"\n", b"\r"), 3, 3, 3),
+    ("LF, CRLF, CR", ended(*ENDS), 4, 4, 4),
+    ("no line end at all", BARE, 0, None, None),
+    ("VT and FF only", ended(b"\v", b"\f", b"\v\f"), 0, None, None),
+    ("blanks only", ended(b" ", b"\t", b" \t"), 0, None, None),
+    ("LF, VT and FF", ended(b"\v\n\f", b"\n\v", b"\f\n"), 1, None, None),
+    ("CR before, LF behind", b"\r" + BARE + b"\n", 4, None, None),
+    ("LF before CRLF", b"\n" + M.replace(b"\n", b"\r\n"), 4, None, None),
+    ("CR as the last byte of each white", b" \r" + ended(b"\v\r", b"\f\r", b"\t\r"), 3, None, None),
+    ("LF, and CR as the last byte", M + b"\r", 4, None, None),
+    ("CR then LF in each white", b"\v\r\n" + ended(b" \r\n ", b"\r\n\v", b"\f\r\n"), 2, None, None),
+    ("CR LF CR behind the opening", ended(b"\r\n\r", b"\r\n", b"\r\n"), 4, 4, None),
+    ("CR LF CR LF behind the opening", ended(b"\r\n\r\n", b"\r\n", b"\r\n"), 2, 2, None),
+    ("CR CR LF behind the opening", ended(b"\r\r\n", b"\r", b"\r"), 4, 4, None),
+    ("CR CR behind the opening", ended(b"\r\r", b"\r", b"\r"), 3, 3, None),
+    ("no last line end", ended(b"\r\n", b"\r\n", b""), 2, 2, None),
+    ("blanks before CRLF", ended(b" \r\n", b"\t\r\n", b" \t\r\n"), 2, 2, None),
+    ("CR between the pads", M.replace(b"==", b"=\r="), 4, 4, None),
+    ("CR between the characters", M.replace(b"Zg", b"Z\rg"), 4, 4, None),
+    ("labels differ", M.replace(b"END A", b"END B"), None, None, None),
+    ("counts", M.replace(b"==", b"="), None, None, None),
+    ("spare bits", M.replace(b"Zg", b"Zh"), 1, None, None),
+]
+# White, and the style of a message that has no line ends but those of that white, wherever lax lets it stand.
+WHITES = [
+    (b"\n", 1), (b"\r\n", 2), (b"\r", 3), (b"\n\n", 1), (b"\r\n\r\n", 2), (b"\r\r", 3), (b"\n\r", 4), (b"\r\n\n", 4),
+    (b"\r\n\r", 4), (b"\r\r\n", 4), (b"\n\r\n", 4), (b"\r \n", 4), (b"\r\v\n", 4), (b"\r\t\r", 3), (b"\v\f \t", 0),
+    (b" \r\n\v", 2), (b"\f\r", 3), (b"\v\n\f", 1),
+]
+for at in (0, 17, 18, 19, 20, 21, len(BARE)):
+    STYLES += [("%r at %d" % (white, at), BARE[:at] + white + BARE[at:], style, None, None) for white, style in WHITES]
+# Each of the three line ends of M in each style.
+for kinds in itertools.product((1, 2, 3), repeat=3):
+    style = kinds[0] if len(set(kinds)) == 1 else 4
+    STYLES.append(("%d %d %d" % kinds, ended(*(ENDS[kind - 1] for kind in kinds)), style, style, style))
+for name, t, *wants in STYLES:
+    for g, want in zip((1, 2, 3), wants):
+        a, short = read(t, g, 1), read(t, g, 0)
+        assert a.style == (want or 0) and (a.number == 0) == (want is not None), (name, g, a)
+        assert short.style == 0 and (short.number == 10) == (want is not None), (name, g, short)
+for g in UNKNOWN:
+    assert read(M, g, 8).report() == [1, 0, 0, 0, 0, 0, 0, 0]
+assert read(M.replace(b"\n", b"\r\n"), 2, 8).report() == [0, 0, 1, 11, 1, 0, 2, 0]
+
 # Rows of the index: a text, and for each grammar the numbers of the table or a number and a place.
 TWO = [2, 0, 39, 11, 1, 1, 39, 39, 50, 1, 1]
 JOINED = [2, 0, 38, 11, 1, 1, 38, 39, 49, 1, 1]
@@ -284,6 +340,12 @@ def by_derivatives(t, e):
     return nullable(e), done
 
 
+def style_of_marks(t):
+    """The style that the marks of a text have."""
+    kinds = set(cut(t)) & set(ENDS)
+    return 4 if len(kinds) > 1 else sum(1 + ENDS.index(kind) for kind in kinds)
+
+
 def check_starts(t, k, pattern):
     """The starts up to k are good, and no other start of the text is."""
     assert k == oracle.longest_start(t, pattern), (t, k, oracle.longest_start(t, pattern))
@@ -297,6 +359,8 @@ def check(t):
         ok, k = by_derivatives(t, ONE[g])
         assert ok == (oracle.WHOLE[g].fullmatch(t) is not None), (t, g)
         check_starts(t, k, oracle.START[g])
+        a = read(t, g, len(t))
+        assert a.style == (style_of_marks(t) if a.number == 0 else 0), (t, g, a)
 
 
 def cuts(t, g, pattern):
@@ -321,6 +385,7 @@ def check_bundle(t, search):
         if search:
             assert cuts(t, g, oracle.WHOLE[g]) == ([ends] if ok else []), (t, g)
         a = index(t, g, 99)
+        assert a.style == 0, (t, g, a)
         if not ok:
             assert a.number in (3, 4, 5) and a.place == k or a.number in (6, 7, 8, 9), (t, g, a)
         # One message is a bundle with the reader's label and size; what one message refuses by 6 to 9 a bundle does too.
@@ -353,6 +418,8 @@ for t in BASES:
     check(t)
     for i in range(len(t) + 1):
         check(t[:i])
+for row in STYLES:
+    check(row[1])
 for _ in range(6000):
     check(damaged(random.choice(BASES), random.randint(1, 3)))
 
@@ -365,6 +432,8 @@ for n in range(7):
 for t in itertools.islice(leaps.damaged(random.Random(7468)), 0, None, 301):
     check(t)
     check_bundle(t, False)
+for t in itertools.islice(leaps.odd_ended(random.Random(7468)), 0, None, 17):
+    check(t)
 
 BETWEEN = [b"", b"", b"", b" ", b"\t", b"\n", b"\r", b"\r\n", b"\n\n", b"\v", b"x", b"-"]
 for row in BUNDLES:
@@ -376,52 +445,85 @@ for _ in range(6000):
     check_bundle(damaged(t, random.choice((0, 0, 1, 2))), len(t) < 130)
 
 
-def size(label, data):
-    """The length that the paper gives the written text."""
-    return 32 + 2 * len(label) + 4 * -(-len(data) // 3) + -(-len(data) // 48)
+def size(label, data, style):
+    """The length that the paper gives the written text, and under CRLF one byte more for each of its line ends."""
+    lines = -(-len(data) // 48)
+    return 32 + 2 * len(label) + 4 * -(-len(data) // 3) + lines + (lines + 2 if style == 2 else 0)
 
 
-def check_write(label, data):
+def check_write(label, data, style):
     """Label and data are written in the paper's size, given that room, and read back alike under each grammar."""
-    n = size(label, data)
+    n = size(label, data, style)
     for room in (0, n - 1):
-        a = write(label, data, room)
-        assert a.row() == (10, 0, n, 0, 0) and a.out == bytes(room), (label, len(data), room, a)
-    a = write(label, data, n)
-    assert a.row() == (0, 0, n, 0, 0) and len(a.out) == n, (label, len(data), a)
-    assert write(label, data, n + 9).out == a.out + bytes(9)
+        a = write(label, data, style, room)
+        assert a.report() == [10, 0, n, 0, 0, 0, 0, 0] and a.out == bytes(room), (label, n, style, room, a)
+    a = write(label, data, style, n)
+    assert a.report() == [0, 0, n, 0, 0, 0, 0, 0] and len(a.out) == n, (label, n, style, a)
+    assert write(label, data, style, n + 9).out == a.out + bytes(9)
     for g in (1, 2, 3):
         b = read(a.out, g, len(data))
-        assert b.row() == (0, 0, len(data), 11, len(label)) and b.out == data, (label, len(data), g, b)
+        assert b.report() == [0, 0, len(data), 11, len(label), 0, style, 0] and b.out == data, (label, n, style, g, b)
         assert a.out[11:11 + len(label)] == label
 
 
+def check_each_style(label, data):
+    """The texts of the three styles differ in their line ends alone."""
+    for style in (1, 2, 3):
+        check_write(label, data, style)
+        assert oracle.written(label, data, style) == oracle.written(label, data).replace(b"\n", ENDS[style - 1])
+
+
 def check_restored(t):
-    """What a strict text reads as is written as that text, with LF for each of its line ends."""
+    """What a strict text reads as is written as that text in its own style, and with LF for each of its line ends. Mixed
+    line ends have no style to write in."""
     a = read(t, 3, len(t))
     if a.number == 0:
+        given, mixed = (t[a.label_at:a.label_at + a.label_len], a.out[:a.size]), style_of_marks(t) == 4
+        b = write(*given, a.style, len(t))
+        assert (b.number, b.out) == ((20, bytes(len(t))) if mixed else (0, t)), t
         restored = b"\n".join(t.splitlines()) + b"\n"
-        assert write(t[a.label_at:a.label_at + a.label_len], a.out[:a.size], len(t)).out[:len(restored)] == restored, t
+        assert write(*given, 1, len(t)).out[:len(restored)] == restored, t
+
+
+def check_joined(items):
+    """Texts of labels and data, each in a style of its own, are joined a bundle with that list under each grammar."""
+    t = b"".join(write(*item, size(*item)).out for item in items)
+    for g in (1, 2, 3):
+        a, found = index(t, g, 99), []
+        for k in range(1, a.size, 5):
+            part = t[a.out[k]:a.out[k] + a.out[k + 1]]
+            b = read(part, g, len(part))
+            found.append((part[b.label_at:b.label_at + b.label_len], b.out[:b.size], b.style))
+        assert a.number == 0 and a.out[0] == len(items) and found == items, (items, g, a)
 
 
 def check_label(label):
     """The writer takes what derivatives of the label accept."""
     ok = by_derivatives(label, LABEL)[0]
-    assert write(label, F, 200).number == (0 if ok else 12), label
+    assert write(label, F, 1, 200).number == (0 if ok else 12), label
 
 
-assert write(b"A", F, 39).out == M
+assert write(b"A", F, 1, 39).out == M
+assert write(b"A", F, 2, 42).out == b"-----BEGIN A-----\r\nZg==\r\n-----END A-----\r\n"
+assert write(b"A", F, 3, 39).out == b"-----BEGIN A-----\rZg==\r-----END A-----\r"
+for n, lf, crlf in ((1, 39, 42), (48, 99, 102), (49, 104, 108)):
+    for style, want in ((1, lf), (2, crlf), (3, lf)):
+        assert size(b"A", bytes(n), style) == want == write(b"A", bytes(n), style, 0).size, (n, style)
 for n in (32767, 32768, 32769):
-    check_write(b"A", random.randbytes(n))
+    check_each_style(b"A", random.randbytes(n))
 for n in range(1, 150):
     for label in (b"", b"A", b"L" * 63, b"L" * 64):
-        check_write(label, random.randbytes(n))
+        check_each_style(label, random.randbytes(n))
+LABELS, LENGTHS = (b"", b"A", b"A-B"), (1, 2, 3, 48, 49)
+ITEMS = [(label, random.randbytes(n), style) for label in LABELS for n in LENGTHS for style in (1, 2, 3)]
+for _ in range(1000):
+    check_joined(random.choices(ITEMS, k=random.randint(0, 4)))
 
 for label in (b" ", b"-", b" A", b"-A", b"A ", b"A-", b"A--B", b"A  B", b"A- B", b"A -B", b"A\tB", b"A\n", b"\r", b"\0",
               b"A\0", b"\x7f", b"A\x80", b"\xff"):
-    assert write(label, F, 200).row() == (12, 0, 0, 0, 0), label
+    assert write(label, F, 1, 200).row() == (12, 0, 0, 0, 0), label
 for label in (b"", b"A-B", b"A B", b"A-B C-D", b"a", b"!", b",", b".", b"~", b"!,.~"):
-    assert write(label, F, 200).number == 0, label
+    assert write(label, F, 1, 200).number == 0, label
 for k in range(256):
     for label in (bytes([k]), bytes([65, k]), bytes([k, 65]), bytes([65, k, 66])):
         check_label(label)
@@ -429,18 +531,23 @@ for n in range(7):
     for label in itertools.product(b"A- ~", repeat=n):
         check_label(bytes(label))
 
-# The first of 11, 12, 13, 14 and 10 that applies, of all at once.
+# The first of 11, 12, 13, 14, 20 and 10 that applies, of all at once.
 for label, number in ((b"A" * 64 + b"-", 11), (b"A" * 65, 11), (b"A" * 63 + b"-", 12), (b"A", None)):
-    for data, later in ((b"", 13), (bytes(8388609), 14), (bytes(8388608), 10), (F, 10)):
-        for room in (0, 20, 38):
-            a, want = write(label, data, room), number or later
-            needed = size(label, data) if want == 10 else 0
-            assert a.row() == (want, 0, needed, 0, 0) and a.out == bytes(room), (label, len(data), room, a)
+    for data, later in ((b"", 13), (bytes(8388609), 14), (bytes(8388608), None), (F, None)):
+        for style, room in itertools.product((1, 2, 3, *UNKNOWN), (0, 20, 38)):
+            a, want = write(label, data, style, room), number or later or (20 if style in UNKNOWN else 10)
+            needed = size(label, data, style) if want == 10 else 0
+            given = label, len(data), style, room
+            assert a.report() == [want, 0, needed, 0, 0, 0, 0, 0] and a.out == bytes(room), (given, a)
+for style in UNKNOWN:
+    assert write(b"A", F, style, 99).number == 20 and write(b"A", F, style, 0).size == 0, style
 
 for t in BASES:
-    for end in (b"\n", b"\r\n", b"\r"):
+    for end in ENDS:
         check_restored(t.replace(b"\n", end))
         check_restored(damaged(t, 1).replace(b"\n", end))
+    for _ in range(9):
+        check_restored(b"".join(line.rstrip(b"\n") + random.choice(ENDS) for line in t.splitlines(keepends=True)))
 
 
 def check_over(t):
@@ -474,8 +581,10 @@ def check_fullest(full):
 white_behind = M.ljust(16777216)
 assert read(white_behind, 1, 1).out == F and index(white_behind, 1, 6).out == [1, 0, 16777216, 11, 1, 1]
 check_over(white_behind + b" ")
+assert [read(M.ljust(16777216, end), 1, 1).style for end in (b" ", b"\n", b"\r")] == [1, 1, 4]
 check_longest(b"L" * 17, random.randbytes(258110 * 48))  # full lines, and more data than is written
 check_fullest(SHORTEST * 559240)
-assert size(b"L" * 64, bytes(8388608)) == 11359735
-check_write(b"L" * 64, random.randbytes(8388608))
+LARGEST = b"L" * 64, random.randbytes(8388608)
+assert [size(*LARGEST, style) for style in (1, 2, 3)] == [11359735, 11534500, 11359735]
+check_each_style(*LARGEST)
 print("ok")
