@@ -49,7 +49,7 @@ def indexed(library, text, grammar, room):
     return number, report, memoryview(table).cast("I").tolist()
 
 
-def written(library, label, data, room):
+def written(library, label, data, style, room):
     """What write answers: number, report and output."""
-    given = label, ctypes.c_size_t(len(label)), data, ctypes.c_size_t(len(data))
+    given = label, ctypes.c_size_t(len(label)), data, ctypes.c_size_t(len(data)), ctypes.c_uint32(style)
     return lent(library.zullifern_write, *given, room=room)

@@ -1,19 +1,20 @@
 """Compares the linked archive with the oracle on random texts and bundles: valid, damaged by up to three edits, and soups
 of marks; some of them in lines long enough to leap, damaged where a leap begins or ends; the write call on random labels,
-valid and damaged, and data of many lengths. A few texts have white behind them up to the limit or one byte over it, and a few
-data are as long as may be written or one byte longer. With `leaps` it goes through all that `leaps.py` makes, which takes
-minutes.
+valid and damaged, data of many lengths, and styles, known and unknown. A few texts have white behind them up to the limit or
+one byte over it, and a few data are as long as may be written or one byte longer. With `leaps` it goes through all that
+`leaps.py` makes, which takes minutes.
 
     rt staticlib zullifern
     python3 compare.py target/staticlib/libzullifern.a SEED COUNT
     python3 compare.py target/staticlib/libzullifern.a leaps
 
 The lent output, table and report are filled with old values first; output and table are guarded at both ends. What was
-written is read back.
+written is read back, and what was read of a strict text is written in the style that was found.
 """
 import collections
 import itertools
 import random
+import re
 import sys
 
 import leaps
@@ -27,6 +28,8 @@ SHOWN = 5000
 WHITE = [b" ", b"\t", b"\r", b"\n", b"\x0b", b"\x0c"]
 SOUP = [b"-----BEGIN ", b"-----END ", b"-----", b"A", b"=", b"==", b"\r", b"\n", b"\r\n", b" ", b"\t", b"Zg==", b"-", b"\x0b", b"A-B", b"\xff", b"!"]
 LABEL_BYTES = [c for c in range(33, 127) if c != 45]
+UNKNOWN_STYLES = [0, 4, 257, 4294967295]
+LINE_END = re.compile(rb"\r\n|\r|\n")
 
 
 class Texts:
@@ -79,7 +82,14 @@ class Texts:
         body = [self.lax_body, self.standard_body, self.strict_body][grammar - 1]()
         before = self.some(WHITE, [0, 0, 1, 2]) if grammar == 1 else b""
         after = [lambda: self.some(WHITE, [0, 0, 1, 2]), lambda: self.some([b" ", b"\t"], [0, 1]) + self.random.choice([b"", self.line_end()]), self.line_end][grammar - 1]()
-        return before + b"-----BEGIN " + opened + b"-----" + body + b"-----END " + closed + b"-----" + after
+        text = before + b"-----BEGIN " + opened + b"-----" + body + b"-----END " + closed + b"-----" + after
+        return text if self.random.random() < 0.4 else LINE_END.sub(self.line_end(), text)
+
+    def line_ends(self, count):
+        """Ends for so many lines: by turns, or all of one kind but for one."""
+        if self.random.random() < 0.5:
+            return self.random.choice(leaps.ENDS)
+        return self.random.choice(list(leaps.but_one(self.random.choice(leaps.USUAL), self.random.choice(leaps.ODD), count)))
 
     def lined(self):
         """A message in lines of one width or of many, after no edit to three where a leap may begin or end."""
@@ -87,7 +97,7 @@ class Texts:
         widths = [self.random.choice([width, width, self.random.randint(1, 140)]) for _ in range(self.random.choice([0, 1, 2, 3, 5]))]
         chars = leaps.characters(self.random, widths, self.random.randint(1, 16), self.random.choice([0, 1, 2]))
         blanks = self.some([b" ", b"\t"], [0, 0, 0, 1, 2, 17])
-        text, starts = leaps.lined(self.label(), chars, widths, self.random.choice(leaps.ENDS), blanks)
+        text, starts = leaps.lined(self.label(), chars, widths, self.line_ends(len(widths) + 3), blanks)
         for _ in range(self.random.choice([0, 1, 1, 2, 3])):
             at = self.random.choice(leaps.places(text, starts))
             text = self.random.choice(list(leaps.edited(text, at)))
@@ -157,13 +167,18 @@ class Texts:
             length = oracle.DATA_LIMIT + self.random.choice([0, 1])
         return self.random.randbytes(length)
 
+    def style(self):
+        return self.random.choice([1, 2, 3] * 6 + UNKNOWN_STYLES + [self.random.getrandbits(32)])
+
     def read_room(self, text):
         """Some room, or about as much as the data need."""
         if self.random.random() < 0.5:
             return self.random.choice([3, 10, 60, 200, *leaps.ROOMS])
         return max(0, data_size(text) + self.random.choice([-1, 0, 0, 1]))
 
-    def write_room(self, needed):
+    def write_room(self, label, data, style):
+        """About as much as the text needs, or would need in a known style."""
+        needed = len(oracle.written(label, data, style if style in oracle.LINE_ENDS else oracle.LF))
         return max(0, needed + self.random.choice([0, 0, 0, -1, 1, 7, 100, -needed, -self.random.randint(0, 40)]))
 
 
@@ -176,64 +191,99 @@ def agree(got, want, *given):
     assert got == want, "\n".join(repr(part)[:SHOWN] for part in (*given, got, want))
 
 
+def compare_restored(library, text, a):
+    """What was read of a strict text is written as that text, in the style that was found; there is none of mixed ends."""
+    label, data, room = text[a.label_at:a.label_at + a.label_len], a.out[:a.size], len(text)
+    number, _, out = written(library, label, data, a.style, room)
+    agree((number, out), (20, bytes(room)) if a.style == oracle.MIXED else (0, text), text, a.style)
+
+
 def compare_read(library, text, grammar, room):
-    """The number that oracle and library agree on."""
+    """The answer that oracle and library agree on."""
     a = oracle.read(text, grammar, room)
     passed = a.number in (0, 10)
     label = [0, 0, 0, a.label_at if passed else 0, a.label_len if passed else 0, 0, 0, 0]
-    want = (a.number, [*a.row(), 0, 0, 0], a.out, 0, label)
+    want = (a.number, a.report(), a.out, 0, label)
     agree(called(library, text, grammar, room), want, text, grammar, room)
-    return a.number
+    if a.number == 0 and grammar == 3:
+        compare_restored(library, text, a)
+    return a
 
 
 def compare_index(library, text, grammar, room):
     """The number that oracle and library agree on."""
     a = oracle.index(text, grammar, room)
-    want = (a.number, [*a.row(), 0, 0, 0], a.out)
+    want = (a.number, a.report(), a.out)
     agree(indexed(library, text, grammar, room), want, text, grammar, room)
     return a.number
 
 
-def compare_write(library, label, data, room):
-    """The number that oracle and library agree on. What was written is read back alike under each grammar."""
-    a = oracle.write(label, data, room)
-    want = (a.number, [*a.row(), 0, 0, 0], a.out)
-    agree(written(library, label, data, room), want, label, data, room)
+def compare_write(library, label, data, style, room):
+    """The number that oracle and library agree on. What was written is read back alike under each grammar, with its style."""
+    a = oracle.write(label, data, style, room)
+    want = (a.number, a.report(), a.out)
+    agree(written(library, label, data, style, room), want, label, data, style, room)
     for grammar in (1, 2, 3) if a.number == 0 else ():
         number, report, out, *_ = called(library, a.out[:a.size], grammar, len(data))
-        agree((number, report[2:5], out), (0, [len(data), 11, len(label)], data), label, grammar)
+        agree((number, report[2:], out), (0, [len(data), 11, len(label), 0, style, 0], data), label, style, grammar)
     return a.number
 
 
+def compare_order(library):
+    """The numbers of writes in which each of 11 to 14, 20 and 10 stands against each that comes behind it."""
+    labels, data = (b"L" * 64 + b"-", b"A-", b"A"), (b"", bytes(oracle.DATA_LIMIT + 1), b"f")
+    for given in itertools.product(labels, data, [1, 2, 3, *UNKNOWN_STYLES], (0, 38, 39, 41, 42, 100)):
+        yield compare_write(library, *given)
+
+
+class Answers:
+    """How often each number was read, and each style where the text was accepted."""
+
+    def __init__(self):
+        self.numbers, self.styles = collections.Counter(), collections.Counter()
+
+    def add(self, a):
+        self.numbers[a.number] += 1
+        if a.number == 0:
+            self.styles[a.style] += 1
+
+    def __str__(self):
+        return "by number: %s, accepted by style: %s" % tuple(dict(sorted(counts.items())) for counts in (self.numbers, self.styles))
+
+
 def compare_random(library, seed, count):
-    texts, pairs = Texts(seed), Texts(seed)
-    read, index, write = collections.Counter(), collections.Counter(), collections.Counter()
+    texts, sound, pairs = Texts(seed), Texts(seed), Texts(seed)
+    read, index, write = Answers(), collections.Counter(), collections.Counter(compare_order(library))
     for _ in range(count):
         text, bundle = texts.text(), texts.bundle()
-        read[compare_read(library, text, texts.grammar(), texts.read_room(text))] += 1
+        read.add(compare_read(library, text, texts.grammar(), texts.read_room(text)))
         index[compare_index(library, text, texts.grammar(), texts.random.choice([0, 1, 5, 6, 7]))] += 1
         index[compare_index(library, bundle, texts.grammar(), texts.random.choice([0, 1, 6, 10, 11, 16, 21, 30]))] += 1
-        label, data = pairs.any_label(), pairs.data()
-        write[compare_write(library, label, data, pairs.write_room(len(oracle.written(label, data))))] += 1
-    print(count, "texts read, by number:", dict(sorted(read.items())))
+        grammar = sound.random.choice([1, 2, 3])
+        text = sound.mostly_sound(grammar)
+        read.add(compare_read(library, text, grammar, sound.read_room(text)))
+        label, data, style = pairs.any_label(), pairs.data(), pairs.style()
+        write[compare_write(library, label, data, style, pairs.write_room(label, data, style))] += 1
+    print(2 * count, "texts read,", read)
     print(2 * count, "texts indexed, by number:", dict(sorted(index.items())))
-    print(count, "labels and data written, by number:", dict(sorted(write.items())))
+    print(sum(write.values()), "labels and data written, by number:", dict(sorted(write.items())))
 
 
 def compare_leaps(library):
     """Each text of `leaps.py` under each grammar, with about as much room as its data need and with another room."""
-    read = {grammar: collections.Counter() for grammar in (1, 2, 3)}
+    read = {grammar: Answers() for grammar in (1, 2, 3)}
     index = {grammar: collections.Counter() for grammar in (1, 2, 3)}
     rooms, around = itertools.cycle(leaps.ROOMS), itertools.cycle((-1, 0, 0, 1, 0))
-    for text in leaps.damaged(random.Random(7468)):
+    for text in itertools.chain(leaps.odd_ended(random.Random(7468)), leaps.damaged(random.Random(7468))):
         size = data_size(text)
         for grammar in (1, 2, 3):
             for room in (next(rooms), max(0, size + next(around))):
-                read[grammar][compare_read(library, text, grammar, room)] += 1
+                read[grammar].add(compare_read(library, text, grammar, room))
             index[grammar][compare_index(library, text, grammar, 6)] += 1
     for grammar in (1, 2, 3):
-        print("grammar", grammar, "read, by number:", dict(sorted(read[grammar].items())), "indexed:", dict(sorted(index[grammar].items())))
-        assert {0, 3, 4, 5, 10} <= set(read[grammar]) and {0, 3, 4, 5} <= set(index[grammar])
+        print("grammar", grammar, "read,", read[grammar], "indexed:", dict(sorted(index[grammar].items())))
+        assert {0, 3, 4, 5, 10} <= set(read[grammar].numbers) and {0, 3, 4, 5} <= set(index[grammar])
+        assert {1, 2, 3, 4} <= set(read[grammar].styles)
 
 
 def main():
