@@ -5,10 +5,7 @@
 import sys
 
 import oracle
-from forms import GRAMMARS, checksum, numbers, samples, text_of
-
-# The numbers of a report that no call fills.
-RESERVED = (0, 0, 0)
+from forms import GRAMMARS, STYLES, checksum, numbers, samples, text_of
 
 
 def made(n):
@@ -28,44 +25,44 @@ def shown_data(data):
 
 
 def shown_text(text):
-    return "text=" + text.decode().replace("\n", "$") if len(text) <= 200 else checksum(text)
+    return "text=" + text.decode().replace("\n", "$").replace("\r", "%") if len(text) <= 200 else checksum(text)
 
 
 def print_read(name, t, g, room):
     a, part = oracle.read(t, g, room), oracle.label_part(t, g)
     assert part == ((a.label_at, a.label_len) if a.number in (0, 10) else None)
     at, length = part or (0, 0)
-    print(name + ":", GRAMMARS.get(g, g), room, "read", numbers((a.number, *a.row(), *RESERVED)), shown_data(result(a, room)), "clean",
-          "label", numbers((0, 0, 0, 0, at, length, *RESERVED)), shown_text(t[at:at + length]))
+    print(name + ":", GRAMMARS.get(g, g), room, "read", numbers((a.number, *a.report())), shown_data(result(a, room)), "clean",
+          "label", numbers((0, 0, 0, 0, at, length, 0, 0, 0)), shown_text(t[at:at + length]))
 
 
 def print_index(name, t, g, room):
     a = oracle.index(t, g, room)
-    print(name + ":", GRAMMARS.get(g, g), room, "index", numbers((a.number, *a.row(), *RESERVED)), numbers(("table", *result(a, room))), "clean")
+    print(name + ":", GRAMMARS.get(g, g), room, "index", numbers((a.number, *a.report())), numbers(("table", *result(a, room))), "clean")
 
 
-def print_written(name, label, data, room):
+def print_written(name, label, data, style, room):
     """Answers the text that was written."""
-    a = oracle.write(label, data, room)
+    a = oracle.write(label, data, style, room)
     text = result(a, room)
-    print(name + ": write", room, numbers((a.number, *a.row(), *RESERVED)), shown_text(text), "clean")
+    print(name + ": write", STYLES.get(style, style), room, numbers((a.number, *a.report())), shown_text(text), "clean")
     return text
 
 
 def found(text, g):
-    """The label and the data that the read call finds, given room."""
+    """The label, the data and the style that the read call finds, given room."""
     room = len(text)
     a = oracle.read(text, g, room)
-    return text[a.label_at:a.label_at + a.label_len], result(a, room)
+    return text[a.label_at:a.label_at + a.label_len], result(a, room), a.style
 
 
-def write_sample(mode, name, room, head, data):
-    label, data = found(head, 3) if mode == "restore" else (head, data)
-    text = print_written(name, label, data, room)
-    assert mode != "restore" or not text or text == head or b"\r" in head
+def write_sample(mode, name, room, head, data, style):
+    given = found(head, 3) if mode == "restore" else (head, data, style)
+    text = print_written(name, *given, room)
+    assert mode != "restore" or text in (b"", head)
     if mode != "write":
         for g in GRAMMARS:
-            assert not text or found(text, g) == (label, data)
+            assert not text or found(text, g) == given
             print_read(name, text, g, room)
 
 
@@ -81,7 +78,7 @@ def text_sample(mode, name, room, t):
 
 for mode, name, room, count, rest in samples(sys.argv[1], 5):
     if mode in ("write", "back", "restore"):
-        length, head, form = rest.split(":", 2)
-        write_sample(mode, name, int(room), text_of(head, int(count)), text_of(form, int(count)) + made(int(length)))
+        length, style, head, form = rest.split(":", 3)
+        write_sample(mode, name, int(room), text_of(head, int(count)), text_of(form, int(count)) + made(int(length)), int(style))
     else:
         text_sample(mode, name, int(room), text_of(rest, int(count)))

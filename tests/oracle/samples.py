@@ -3,6 +3,7 @@
     python3 samples.py DOCUMENT_001 > crates/samples/stdin
     python3 write_samples.py DOCUMENT_001 >> crates/samples/stdin
 """
+import itertools
 import random
 import sys
 
@@ -236,11 +237,62 @@ each("M-twice", M + M)
 each("M-no-last-LF-then-M", M[:-1] + M)
 each("DEL-in-data", body(b"Zm\x7f9v\n"))
 
+comment("Styles: M with each of its line ends of each kind.")
+ENDS = {"LF": b"\n", "CRLF": b"\r\n", "CR": b"\r"}
+OPENING, GROUP, CLOSING = M.splitlines()
+for first, second, third in itertools.product(ENDS, repeat=3):
+    t = OPENING + ENDS[first] + GROUP + ENDS[second] + CLOSING + ENDS[third]
+    each("ends-%s-%s-%s" % (first, second, third), t, room=1)
+for name in ("CRLF", "CR"):
+    t = M.replace(b"\n", ENDS[name])
+    each("no-last-" + name, t.removesuffix(ENDS[name]), room=1)
+    each("no-room-" + name, t, room=0)
+
+comment("Styles of a message with line ends in one place only, and with white that is none.")
+BARE = OPENING + GROUP + CLOSING
+PLACES = {"before": 0, "in-body": 18, "behind": len(BARE), "behind-opening": 17, "between-pads": 20, "behind-pads": 21}
+WHITES = {"LF-CR": b"\n\r", "CR-LF-CR": b"\r\n\r", "CR-CRLF": b"\r\r\n", "CR-VT-LF": b"\r\v\n", "SP-CR": b" \r", "VT-FF": b"\v\f"}
+for place, at in PLACES.items():
+    for name, white in (ENDS | WHITES if place in ("before", "in-body", "behind") else ENDS).items():
+        each("%s-%s-only" % (name, place), BARE[:at] + white + BARE[at:], room=1)
+each("CR-before-LF-behind-only", b"\r" + BARE + b"\n", room=1)
+each("blanks-only", b" " + OPENING + b"\t" + GROUP + b" \t" + CLOSING + b" ", room=1)
+each("VT-FF-for-line-ends", OPENING + b"\v" + GROUP + b"\f" + CLOSING + b"\v", room=1)
+each("LF-before-CRLF", b"\n" + M.replace(b"\n", b"\r\n"), room=1)
+for name, white in (("CR-LF-CR", b"\r\n\r"), ("CR-CR", b"\r\r"), ("CRLF-CRLF", b"\r\n\r\n"), ("CR-CRLF", b"\r\r\n")):
+    each(name + "-behind-opening", OPENING + white + GROUP + b"\r\n" + CLOSING + b"\r\n", room=1)
+each("split-pads-CR-only", OPENING + b"\rZg=\r=\r" + CLOSING + b"\r", room=1)
+each("split-pads-CRLF-only", OPENING + b"\r\nZg= \r\n=\r\n" + CLOSING, room=1)
+
+comment("Styles of full lines, and one line end of another kind before them, among them and behind them.")
+
+
+def full_lines(name, *parts):
+    put("each", "lines-" + name, "".join(parts), room=1024, count=20)
+
+
+for usual, odd in itertools.product(ENDS, ENDS):
+    name, e, o = usual + "-" + odd, form(ENDS[usual]), form(ENDS[odd])
+    start, full, group, end = form(OPENING), form(FULL), form(GROUP) + e, form(CLOSING)
+    many = "{" + full + e + "}"
+    if usual == odd:
+        full_lines(usual, start, e, many, group, end, e)
+        continue
+    full_lines(name + "-opening", start, o, many, group, end, e)
+    full_lines(name + "-among", start, e, many, full, o, full, e, group, end, e)
+    full_lines(name + "-closing", start, e, many, group, end, o)
+    if (usual, odd) in (("LF", "CRLF"), ("CRLF", "CR"), ("CR", "LF")):
+        full_lines(name + "-last-full", start, e, many, full, o, group, end, e)
+        full_lines(name + "-last", start, e, many, form(GROUP), o, end, e)
+
 comment("Texts of 65,536 bytes, and of one less.")
 long("each", "white-before", b"", b" ", M)
 long("each", "white-behind", M, b" ")
 long("each", "blanks-behind", M[:-1], b"\t", b"\n")
 long("each", "blanks-behind-opening", M[:17], b" ", M[17:])
+long("each", "LF-behind", M, b"\n")
+long("each", "CR-behind", BARE, b"\r")
+long("each", "CR-before-LF", b"", b"\r", b"\n" + BARE)
 LONG = "-----BEGIN AB-----${" + FULL.decode() + "$}" + FULL[:44].decode() + "$-----END AB-----"
 put("each", "lines-65536", LONG + "$", room=49152, count=1007)
 put("each", "lines-65536", LONG + "$", room=48368, count=1007)

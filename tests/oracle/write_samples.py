@@ -2,6 +2,7 @@
 
     python3 write_samples.py DOCUMENT_001 >> crates/samples/stdin
 """
+import itertools
 import random
 import sys
 
@@ -12,26 +13,27 @@ samples = Samples(WRITE_SAMPLES)
 comment = samples.comment
 
 
-def put(mode, name, room, head, data, length=0, count=1):
+def put(mode, name, room, head, data, length=0, count=1, style=oracle.LF):
     assert ":" not in head and max(room, len(text_of(head, count)), len(text_of(data, count)) + length) <= BUFFER, name
-    samples.put(mode, name, room, count, length, head, data)
+    samples.put(mode, name, room, count, length, style, head, data)
 
 
-def write(name, label, data=b"f", room=300, length=0):
-    put("write", name, room, form(label), form(data), length)
+def write(name, label, data=b"f", room=300, length=0, style=oracle.LF):
+    put("write", name, room, form(label), form(data), length, style=style)
 
 
-def back(name, label, data=b"f", room=300, length=0):
-    put("back", name, room, form(label), form(data), length)
+def back(name, label, data=b"f", room=300, length=0, style=oracle.LF):
+    put("back", name, room, form(label), form(data), length, style=style)
 
 
-def restore(name, text, room=1200):
-    put("restore", name, room, form(text), "")
+def restore(name, text, room=1200, count=1):
+    """The style is the one that is found in the text."""
+    put("restore", name, room, text if isinstance(text, str) else form(text), "", count=count, style=oracle.NONE)
 
 
-def needed(label, n):
+def needed(label, n, style=oracle.LF):
     """The room that a label and n bytes need."""
-    return len(oracle.written(label, bytes(n)))
+    return len(oracle.written(label, bytes(n), style))
 
 
 M = oracle.written(b"A", b"f")
@@ -97,12 +99,53 @@ write("order-label-64-no-data", b"L" * 64, b"", room=0)
 write("order-empty-label-no-data", b"", b"", room=0)
 write("order-empty-label-no-data", b"", b"")
 
-comment("Round trips of texts: strict ones with LF are restored.")
+comment("Styles: data of 1, 48 and 49 bytes and more, and their room: exact, one less, one more, none.")
+OTHERS = {"CRLF": oracle.CRLF, "CR": oracle.CR}
+for (name, style), n in itertools.product(OTHERS.items(), (1, 2, 3, 47, 48, 49, 96, 97, 513)):
+    exact = needed(b"A", n, style)
+    back("%s-%d" % (name, n), b"A", b"", exact, n, style)
+    for room in (exact - 1, exact + 1, 0) if n in (1, 48, 49) else ():
+        write("%s-%d" % (name, n), b"A", b"", room, n, style)
+for name, style in OTHERS.items():
+    back(name + "-M", b"A", style=style)
+    back(name + "-empty-label", b"", style=style)
+    back(name + "-label-64", b"L" * 64, style=style)
+for style in (0, 4, 257, 4294967295):
+    for room in (39, 300, 0):
+        write("style-%d" % style, b"A", room=room, style=style)
+    back("style-%d-back" % style, b"A", style=style)
+
+comment("Styles: the most data whose text fits with CRLF.")
+for label, n in ((b"", 47637), (b"L" * 64, 47544)):
+    name, exact = "CRLF-label-%d-data" % len(label), needed(label, n, oracle.CRLF)
+    assert exact <= BUFFER < needed(label, n + 1, oracle.CRLF)
+    back("%s-%d" % (name, n), label, b"", exact, n, oracle.CRLF)
+    write("%s-%d" % (name, n), label, b"", exact - 1, n, oracle.CRLF)
+    write("%s-%d" % (name, n + 1), label, b"", BUFFER, n + 1, oracle.CRLF)
+
+comment("Styles in the order of the checks: behind label and data, before room.")
+for name, label in (("long", b"L" * 65), ("no-label", b"A-"), ("label", b"A")):
+    for n, room, style in ((0, 0, 0), (0, 300, 4), (1, 0, 257), (1, 38, 4294967295)):
+        write("order-%s-%d-style-%d" % (name, n, style), label, b"", room, n, style)
+
+comment("Round trips of texts: strict ones of one style are restored.")
 FULL = "ABCDEFGHIJKLMNOPQRSTUVWXYZabcdefghijklmnopqrstuvwxyz0123456789+/"
 for room in (39, 38, 1200, 0):
     restore("M", M, room)
 restore("CRLF", M.replace(b"\n", b"\r\n"))
 restore("CR", M.replace(b"\n", b"\r"))
+for name, style in OTHERS.items():
+    exact = needed(b"A", 1, style)
+    for room in (exact, exact - 1):
+        restore(name, oracle.written(b"A", b"f", style), room)
+    for n in (48, 49, 97):
+        restore("%s-lines-%d" % (name, n), oracle.written(b"A", bytes(range(n)), style))
+    restore(name + "-label-64", oracle.written(b"L" * 64, b"foo", style))
+for name, text in (
+    ("CRLF-first", M.replace(b"\n", b"\r\n", 1)), ("CR-last", M[:-1] + b"\r"), ("LF-last", M.replace(b"\n", b"\r\n", 2)),
+    ("CR-among-lines", oracle.written(b"A", bytes(49)).replace(b"A\n", b"A\r", 1)),
+):
+    restore("mixed-" + name, text)
 restore("empty-label", oracle.written(b"", b"f"))
 restore("label-64", oracle.written(b"L" * 64, b"foo"))
 restore("label-A-B-SP-C", oracle.written(b"A-B C", b"fo"))
@@ -114,11 +157,14 @@ restore("no-data", oracle.written(b"A", b""))
 restore("label-65", oracle.written(b"L" * 65, b"f"))
 LONGEST = "-----BEGIN {0}-----$\n{{{1}$}}{2}//8=$\n-----END {0}-----$".format("L" * 63, FULL, FULL[:48])
 for room in (65536, 65535):
-    put("restore", "longest", room, LONGEST, "", count=1005)
+    restore("longest", LONGEST, room, 1005)
+LONGEST_CRLF = "-----BEGIN {0}-----%$\n{{{1}%$}}{2}//8=%$\n-----END {0}-----%$".format("L" * 62, FULL, FULL[:32])
+assert len(text_of(LONGEST_CRLF, 990)) == BUFFER
+restore("longest-CRLF", LONGEST_CRLF, 65536, 990)
 
 comment("Round trips of the examples of draft-josefsson-pkix-textual-00, in their order.")
 for name, example in examples(sys.argv[1]):
-    put("restore", name, 1024, "\n" + example, "")
+    restore(name, "\n" + example, 1024)
 
 comment("Labels and data at random.")
 random.seed(7468)
@@ -147,5 +193,14 @@ for k in range(300):
     length = random.choice((0, 0, random.randint(0, 100)))
     exact = needed(label, len(data) + length)
     back("random-%d" % k, label, data, exact + random.choice((0, 0, 0, 1, 50, -1)), length)
+
+comment("The same in styles at random, known and not.")
+for k in range(20):
+    label, data = random_label(), bytes(random.choices(DATA_BYTES, k=random.randint(0, 20)))
+    if k % 6 == 5:
+        label = damaged(label)
+    length, style = random.choice((0, random.randint(0, 100))), random.choice((1, 2, 2, 2, 3, 3, 3, random.getrandbits(32)))
+    exact = needed(label, len(data) + length, min(style, oracle.CR))
+    back("random-style-%d" % k, label, data, exact + random.choice((0, 0, 0, 1, -1)), length, style)
 
 sys.stdout.write(samples.text())

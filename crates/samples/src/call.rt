@@ -24,9 +24,9 @@ pub fn index(text: &[u8], grammar: u32, numbers: &mut [u32]) -> Answer {
     Answer { number, report }
 }
 
-pub fn write(label: &[u8], data: &[u8], out: &mut [u8]) -> Answer {
+pub fn write(label: &[u8], data: &[u8], style: u32, out: &mut [u8]) -> Answer {
     let mut report = [lent::UNSET; 8];
     bytes::unset(out);
-    let number = zullifern::zullifern_write(label, data, out, &mut report);
+    let number = zullifern::zullifern_write(label, data, style, out, &mut report);
     Answer { number, report }
 }

@@ -1,15 +1,16 @@
 // Runs the library's calls on the samples of standard input, and prints what they answer.
 //
 // A sample stands between '@' and the next '@'. It is a mode, a name, the room of the output or the table and a count, each with
-// ':' behind it, and a text; or, for the write call, a length and a label or a text with ':' behind them too, and data. A mode goes
-// by its first letter:
+// ':' behind it, and a text; or, for the write call, a length, a style and a label or a text with ':' behind each of them too, and
+// data. A mode goes by its first letter:
 //
 //     each      the read call and the label call, a line for each grammar; the number of a grammar: a line for that alone
 //     index     the index call, a line for each grammar; "table" and the number of a grammar: a line for that alone
 //     starts    the same of every start of the text, behind a line with its length
-//     write     label and data are written
+//     write     label and data are written in the style
 //     back      the same, and what was written is read under each grammar
-//     restore   a text is read under strict, its label and data are written, and what was written is read under each grammar
+//     restore   a text is read under strict, its label and data are written in the style that was found and not in the sample's,
+//               and what was written is read under each grammar
 //     #         a comment
 //
 // Label, text and data are in the printable form of `support::expand`, the count being that of their braces; behind the data stand

@@ -9,6 +9,12 @@ pub struct Answer {
     pub report: [u64; 8],
 }
 
+// The style of line ends that a read call reported, as the write call takes it.
+pub fn style(answer: Answer) -> u32 {
+    let report = answer.report;
+    (report[6] % 4294967296) as u32
+}
+
 // How many bytes of the output, or numbers of the table, the answer has filled.
 pub fn filled(answer: Answer) -> usize {
     let report = answer.report;

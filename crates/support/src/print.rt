@@ -130,7 +130,11 @@ pub fn table(table: &[u32], size: usize) {
 
 fn letter(c: u8) {
     let one = [c];
-    either(c == b'\n', b"$", &one);
+    match c {
+        b'\n' => word(b"$"),
+        b'\r' => word(b"%"),
+        _ => word(&one),
+    }
 }
 
 fn letters(bytes: &[u8]) {
@@ -141,7 +145,7 @@ fn letters(bytes: &[u8]) {
     }
 }
 
-// The bytes with '$' for LF, or the checksum of many.
+// The bytes with '$' for LF and '%' for CR, or the checksum of many.
 pub fn text(bytes: &[u8]) {
     if SHORT_TEXT < bytes.len() {
         checksum(bytes);
@@ -160,11 +164,21 @@ fn grammar(number: u32) {
     }
 }
 
-// Name and room; what the write call answers; the text, and whether all behind it is zero.
-pub fn written(name: &[u8], out: &[u8], answer: Answer) {
+fn style(number: u32) {
+    match number {
+        1 => word(b" LF"),
+        2 => word(b" CRLF"),
+        3 => word(b" CR"),
+        _ => self::number(number as u64),
+    }
+}
+
+// Name, style and room; what the write call answers; the text, and whether all behind it is zero.
+pub fn written(name: &[u8], style: u32, out: &[u8], answer: Answer) {
     let size = lent::filled(answer);
     self::name(name);
     word(b" write");
+    self::style(style);
     number(out.len() as u64);
     self::answer(answer);
     text(bytes::part(out, 0, size));
