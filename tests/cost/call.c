@@ -1,10 +1,11 @@
 /*
- * Makes one call of the library, and prints its number, place and size, the label's offset and length, how many bytes it was
- * lent, and the bytes of stack that it touched.
+ * Makes one call of the library, and prints its number, what else it reported, how many bytes it was lent, and the bytes of
+ * stack that it touched.
  *
- *     call CALL GRAMMAR LABEL LENGTH ROOM plain|painted < INPUT
+ *     call CALL GRAMMAR STYLE LABEL LENGTH ROOM plain|painted < INPUT
  *
- * The input is a label of LABEL bytes, which only `write` has a use for, and LENGTH bytes behind it: a text, or data to write.
+ * Only `write` has a use for the style and for the label. The input is a label of LABEL bytes and LENGTH bytes behind it: a
+ * text, or data to write.
  * ROOM is how many bytes or numbers are lent, or `bound` for the room that the result of any input of that length fits.
  * `plain` makes the call on the program's own stack and prints 0 for it; `painted` makes it on another stack, which was filled
  * with one value, and counts from the lowest byte that has another value afterwards.
@@ -23,6 +24,7 @@
 static const size_t STACK = (size_t)1 << 18;
 static const size_t GUARD = (size_t)1 << 28;
 static const int PAINT = 0xA5;
+static const uint32_t CRLF = 2;
 
 struct job;
 typedef uint32_t made_call(struct job *);
@@ -31,6 +33,7 @@ typedef uint32_t made_call(struct job *);
 struct job {
     made_call *make;
     uint32_t grammar;
+    uint32_t style;
     uint8_t *label;
     size_t label_length;
     uint8_t *input;
@@ -59,7 +62,15 @@ static uint32_t make_index(struct job *job) {
 }
 
 static uint32_t make_write(struct job *job) {
-    return zullifern_write(job->label, job->label_length, job->input, job->length, job->lent, job->room, &job->report);
+    return zullifern_write(job->label, job->label_length, job->input, job->length, job->style, job->lent, job->room,
+                           &job->report);
+}
+
+/* The bytes of the text of a label and data of these lengths: each line end is one byte more under CRLF. */
+static size_t written_size(const struct job *job) {
+    size_t lines = (job->length + 47) / 48;
+    size_t size = 32 + 2 * job->label_length + 4 * ((job->length + 2) / 3) + lines;
+    return job->style == CRLF ? size + lines + 2 : size;
 }
 
 static void stop(const char *why) {
@@ -88,7 +99,7 @@ static void choose(struct job *job, const char *name) {
         job->item = sizeof(uint32_t);
     } else if (strcmp(name, "write") == 0) {
         job->make = make_write;
-        job->room = ZULLIFERN_WRITTEN_SIZE(job->label_length, job->length);
+        job->room = written_size(job);
     } else {
         stop("there is no such call");
     }
@@ -144,28 +155,28 @@ static size_t painted(struct job *job) {
 }
 
 static void print(const struct job *job, size_t touched) {
-    const struct zullifern_report *report = &job->report;
-    const uint64_t told[] = {report->place, report->size, report->label_offset, report->label_length};
+    uint64_t told[sizeof job->report / sizeof(uint64_t)];
+    memcpy(told, &job->report, sizeof told);
     printf("%u", job->number);
-    for (size_t i = 0; i < sizeof told / sizeof told[0]; i++)
+    for (size_t i = 1; i < sizeof told / sizeof told[0]; i++)
         printf(" %llu", (unsigned long long)told[i]);
     printf(" %zu %zu\n", job->room * job->item, touched);
 }
 
 int main(int count, char **words) {
-    if (count != 7)
-        stop("CALL GRAMMAR LABEL LENGTH ROOM plain|painted");
+    if (count != 8)
+        stop("CALL GRAMMAR STYLE LABEL LENGTH ROOM plain|painted");
     size_t touched = 0;
-    struct job job = {.grammar = (uint32_t)atoi(words[2])};
-    job.label_length = strtoull(words[3], NULL, 10);
-    job.length = strtoull(words[4], NULL, 10);
+    struct job job = {.grammar = (uint32_t)atoi(words[2]), .style = (uint32_t)atoi(words[3])};
+    job.label_length = strtoull(words[4], NULL, 10);
+    job.length = strtoull(words[5], NULL, 10);
     job.label = taken(job.label_length);
     job.input = taken(job.length);
     choose(&job, words[1]);
-    if (strcmp(words[5], "bound") != 0)
-        job.room = strtoull(words[5], NULL, 10);
+    if (strcmp(words[6], "bound") != 0)
+        job.room = strtoull(words[6], NULL, 10);
     job.lent = lend(job.room * job.item + 1);
-    if (strcmp(words[6], "painted") == 0)
+    if (strcmp(words[7], "painted") == 0)
         touched = painted(&job);
     else
         job.number = job.make(&job);

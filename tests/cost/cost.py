@@ -33,6 +33,8 @@ from texts import FAMILIES, Family, due_at, given
 LENGTHS = [65536, 1048576, oracle.TEXT_LIMIT]
 USUAL_LONGEST = 1048576
 TABLE_NUMBER = 4
+# Which number of a report it is.
+LABEL_LENGTH = 4
 # How many times the instructions for a byte may be at the longest what they are at the shortest.
 GROWS = 1.1
 # How many seconds a count may take for each MiB, many times what it should: a quadratic text would take hours.
@@ -94,7 +96,7 @@ def instructions(words, call, content, seconds):
 def answered(case, label, content, lent):
     """The oracle's answer; for the label call that of a read with enough room."""
     if case.call == "write":
-        return oracle.write(label, content, lent)
+        return oracle.write(label, content, case.family.style, lent)
     if case.call == "index":
         return oracle.index(content, case.grammar, lent // TABLE_NUMBER)
     return oracle.read(content, case.grammar, lent if case.call == "read" else len(content))
@@ -102,29 +104,29 @@ def answered(case, label, content, lent):
 
 def told(case, answer):
     """What a call is to report for an answer. The label call tells the label alone."""
-    return (0, 0, 0, answer.label_at, answer.label_len) if case.call == "label" else answer.row()
+    return [0, 0, 0, answer.label_at, answer.label_len, 0, 0, 0] if case.call == "label" else answer.report()
 
 
 def check(case, n, label, content, lent, report):
     """That the input is what its family says, and the report what the oracle says where that is asked."""
-    due = case.family.number, due_at(case.family.parts, n)
+    due = [case.family.number, due_at(case.family.parts, n)]
     if case.call == "label":
-        assert (report[-1] > 0) == (case.family.number == 0), (case, n, report)
+        assert (report[LABEL_LENGTH] > 0) == (case.family.number == 0), (case, n, report)
     else:
         assert report[:2] == due, (case, n, report)
     if n == LENGTHS[0]:
         answer = answered(case, label, content, lent)
-        assert (answer.number, answer.place) == due, (case, n, answer)
+        assert [answer.number, answer.place] == due, (case, n, answer)
         assert report == told(case, answer), (case, n, report)
 
 
 def count(program, case, n):
     label, content = given(case.call, case.family, n)
     room = "bound" if case.family.room is None else case.family.room(n)
-    words = [program, *map(str, [case.call, case.grammar, len(label), len(content), room])]
+    words = [program, *map(str, [case.call, case.grammar, case.family.style, len(label), len(content), room])]
     painted = subprocess.run([*words, "painted"], input=label + content, capture_output=True, check=True)
     *report, lent, stack = map(int, painted.stdout.split())
-    check(case, n, label, content, lent, tuple(report))
+    check(case, n, label, content, lent, report)
     taken = instructions(words, case.call, label + content, PATIENCE * math.ceil(n / MIB))
     return Count(taken / max(len(label + content), lent), stack)
 

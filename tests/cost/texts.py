@@ -7,6 +7,7 @@ for each of their bytes; refusals that come last; and length where there is usua
 """
 import typing
 
+import oracle
 from oracle import ALPHABET, DATA_LIMIT, LABEL_LIMIT
 
 LAX, STANDARD, STRICT = 1, 2, 3
@@ -15,6 +16,8 @@ DUE = b""
 
 LF, CRLF, CR = b"\n", b"\r\n", b"\r"
 TURNS = [LF, CRLF, CR]
+# Styles to write in beside LF.
+OTHERS = [("CRLF", oracle.CRLF), ("CR", oracle.CR)]
 BLANKS = b" \t"
 WHITE = [b" ", b"\t", b"\r", b"\n", b"\v", b"\f"]
 MIXED = b"".join(WHITE)
@@ -41,11 +44,13 @@ MOTLEY_STANDARD = b"-----BEGIN A-A A-----\t\r \n\rZm \r9\t\nvZ\r\ng \r=\t\r=\t\r
 
 class Family(typing.NamedTuple):
     """`number` is the answer that is due; where it is a refusal the label call hands back an empty label. `label` is the one
-    to write, as parts. `room` is how much is lent by the length that is asked for, where it is not what any result fits."""
+    to write, as parts, and `style` that of its line ends. `room` is how much is lent by the length that is asked for, where it
+    is not what any result fits."""
     name: str
     parts: tuple
     number: int = 0
     label: tuple = (b"A",)
+    style: int = oracle.LF
     room: typing.Callable = None
 
 
@@ -97,8 +102,9 @@ def written_lines(n):
     return min(lines_in(n), DATA_LIMIT // len(LINE_DATA))
 
 
-def written_in(n):
-    return len(BEGIN + END) + written_lines(n) * len(LINE)
+def written_in(n, end=LF):
+    """How many bytes the text of as many full lines has, with another line end than LF perhaps."""
+    return len(OPENING + end + CLOSING + end) + written_lines(n) * len(ALPHABET + end)
 
 
 def given(call, family, n):
@@ -112,6 +118,8 @@ READ_STRICT = [
     Family("one message", (BEGIN, [LINE], END)),
     Family("CRLF", (BEGIN, [runs(64, CRLF)], END)),
     Family("CR", (BEGIN, [runs(64, CR)], END)),
+    Family("CRLF behind the boundaries too", (OPENING + CRLF, [runs(64, CRLF)], CLOSING + CRLF)),
+    Family("one CR among LF", (BEGIN, [LINE], ALPHABET + CR, [LINE], END)),
     Family("LF, CRLF and CR by turns", (BEGIN, [runs(64, *TURNS)], END)),
     Family("no line end", (BEGIN, ALPHABET, DUE, [GROUP], LF, END), 4),
     Family("unfinished", (BEGIN, [LINE], DUE), 4),
@@ -282,12 +290,16 @@ WRITE = [
     Family("one byte on the last line", ([LINE_DATA], b"f")),
     Family("label of 64", ([LINE_DATA],), label=(LABEL,)),
     Family("label of 63, hyphens", ([LINE_DATA],), label=(HYPHENS,)),
+    *[Family(f"full lines, {name}", ([LINE_DATA],), style=style) for name, style in OTHERS],
+    *[Family(f"one byte on the last line, {name}", ([LINE_DATA], b"f"), style=style) for name, style in OTHERS],
     Family("output one byte too small", ([LINE_DATA],), 10, room=lambda n: written_in(n) - 1),
+    Family("output one byte too small, CRLF", ([LINE_DATA],), 10, style=oracle.CRLF, room=lambda n: written_in(n, CRLF) - 1),
     Family("no output", ([LINE_DATA],), 10, room=lambda n: 0),
     Family("short data, long output", (b"f",), room=lambda n: n),
     Family("long label", (b"f",), 11, label=([b"A"],)),
     Family("no label", ([LINE_DATA],), 12, label=(LABEL[1:] + b"-",)),
     Family("no data, long output", (), 13, room=lambda n: n),
+    Family("no style, long output", ([LINE_DATA],), 20, style=oracle.MIXED, room=lambda n: n),
 ]
 
 FAMILIES = {

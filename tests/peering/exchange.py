@@ -1,7 +1,9 @@
 """What we write the peers read, what they write we read, and bundles, each with equal bytes."""
 import collections
+import itertools
 
 import tools
+from ours import STYLES
 
 BUNDLE_COUNTS = [1, 2, 5, 40]
 BUNDLES = "bundles of 1 to 40 certificates"
@@ -51,10 +53,11 @@ def pairs(peers, things):
 
 def written_by_us(tally, ours, peers, things):
     for peer, thing in pairs(peers, things):
-        read_by_peer(tally, peer, thing, ours.write(tools.LABELS[thing.kind], thing.data))
+        for style in peer.styles:
+            read_by_peer(tally, peer, thing, style, ours.write(tools.LABELS[thing.kind], thing.data, style))
 
 
-def read_by_peer(tally, peer, thing, text):
+def read_by_peer(tally, peer, thing, style, text):
     """The peer's DER of our PEM is the DER. Where it writes keys anew, it is what the peer makes of the DER itself."""
     got = tally.attempt(peer.convert, thing.kind, text, tools.PEM, tools.DER)
     wanted = thing.data
@@ -63,7 +66,7 @@ def read_by_peer(tally, peer, thing, text):
         tally.note(f"{peer.name} writes {thing.kind} anew, so what it made of our PEM was compared with what it "
                    "made of the DER")
     if got is not None and wanted is not None:
-        tally.check(f"{peer.name} read what we wrote", thing.kind, got, wanted, thing.name)
+        tally.check(f"{peer.name} read what we wrote with {style}", thing.kind, got, wanted, thing.name)
 
 
 def written_by_peers(tally, ours, peers, things):
@@ -83,6 +86,7 @@ def read_by_us(tally, ours, peer, thing):
     wanted = [(0, 0, [(label, data)])] * 3
     tally.check(f"we read what {peer.name} wrote, under each grammar", thing.kind, ours.under_each(ours.read, text),
                 wanted, thing.name)
+    tally.check(f"we found LF alone in what {peer.name} wrote", thing.kind, ours.style(text), STYLES["LF"], thing.name)
 
 
 def all_lengths(tally, things):
@@ -108,10 +112,18 @@ def bundles(tally, ours, peers, maker):
 
 
 def bundle(tally, ours, peers, certificates):
-    text = b"".join(ours.write(tools.LABELS[tools.CERTIFICATE], data) for data in certificates)
-    our_bundle(tally, "we indexed what we wrote, under each grammar", ours, text, certificates)
+    texts = {style: our_text(ours, certificates, [style]) for style in STYLES}
+    texts["each style by turns"] = our_text(ours, certificates, STYLES)
+    for style, text in texts.items():
+        our_bundle(tally, f"we indexed what we wrote with {style}, under each grammar", ours, text, certificates)
     for peer in peers:
-        peer_bundle(tally, ours, peer, text, certificates)
+        peer_bundle(tally, ours, peer, texts, certificates)
+
+
+def our_text(ours, certificates, styles):
+    """The certificates, written in these styles by turns and joined."""
+    label, turns = tools.LABELS[tools.CERTIFICATE], itertools.cycle(styles)
+    return b"".join(ours.write(label, data, style) for data, style in zip(certificates, turns))
 
 
 def our_bundle(tally, claim, ours, text, certificates):
@@ -119,11 +131,12 @@ def our_bundle(tally, claim, ours, text, certificates):
     tally.check(claim, BUNDLES, ours.under_each(ours.index, text), [(0, 0, wanted)] * 3, f"({len(certificates)})")
 
 
-def peer_bundle(tally, ours, peer, text, certificates):
-    """The peer lists our bundle's certificates in order; the peer's own messages, joined, are a bundle for us."""
-    if hasattr(peer, "several"):
-        found = tally.attempt(peer.several, text)
-        tally.check(f"{peer.name} listed what we wrote", BUNDLES, found, certificates, f"({len(certificates)})")
+def peer_bundle(tally, ours, peer, texts, certificates):
+    """The peer lists our bundles' certificates in order; the peer's own messages, joined, are a bundle for us."""
+    for style in peer.styles if hasattr(peer, "several") else ():
+        found = tally.attempt(peer.several, texts[style])
+        tally.check(f"{peer.name} listed what we wrote with {style}", BUNDLES, found, certificates,
+                    f"({len(certificates)})")
     if peer.writes:
         joined = b"".join(peer.convert(tools.CERTIFICATE, data, tools.DER, tools.PEM) for data in certificates)
         our_bundle(tally, f"we indexed what {peer.name} wrote, under each grammar", ours, joined, certificates)

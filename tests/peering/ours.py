@@ -4,6 +4,7 @@ import collections
 from archive import called, indexed, written
 
 GRAMMARS = {"lax": 1, "standard": 2, "strict": 3}
+STYLES = {"LF": 1, "CRLF": 2, "CR": 3}
 SHORTEST_MESSAGE = 30  # the two boundaries of an empty label
 NUMBERS_PER_MESSAGE = 5
 
@@ -11,19 +12,25 @@ NUMBERS_PER_MESSAGE = 5
 Answer = collections.namedtuple("Answer", "number place messages")
 
 
-def written_size(label, data):
-    return 32 + 2 * len(label) + 4 * -(-len(data) // 3) + -(-len(data) // 48)
+def written_size(label, data, style):
+    """Each line end has one byte more under CRLF."""
+    lines = -(-len(data) // 48)
+    return 32 + 2 * len(label) + 4 * -(-len(data) // 3) + lines + (lines + 2 if style == "CRLF" else 0)
 
 
 class Ours:
     def __init__(self, library):
         self.library = library
 
-    def write(self, label, data):
-        number, report, out = written(self.library, label, data, written_size(label, data))
+    def write(self, label, data, style):
+        number, report, out = written(self.library, label, data, STYLES[style], written_size(label, data, style))
         if number or report[2] != len(out):
-            raise AssertionError(f"write answered {number}, size {report[2]}, for {label} and {len(data)} bytes")
+            raise AssertionError(f"write answered {number}, size {report[2]}, for {label}, {len(data)} bytes and {style}")
         return bytes(out)
+
+    def style(self, text):
+        """The number of the style that strict finds in a text."""
+        return called(self.library, text, GRAMMARS["strict"], len(text))[1][6]
 
     def under_each(self, call, text):
         return [call(text, grammar) for grammar in GRAMMARS.values()]

@@ -1,7 +1,8 @@
 """The peers: each turns a thing of some kind from PEM or DER into PEM or DER.
 
 A tool refuses by raising Refused. Kinds that a tool writes anew from the numbers of a key, and so perhaps with other
-bytes than it was given, are in its `anew`. `one` and `several` are the certificates that it sees in a text.
+bytes than it was given, are in its `anew`. `one` and `several` are the certificates that it sees in a text. `styles` are
+the line ends in which it gets what we write.
 """
 import base64
 import os
@@ -28,6 +29,9 @@ LABELS = {
     CERTIFICATE: b"CERTIFICATE", REQUEST: b"CERTIFICATE REQUEST", CRL: b"X509 CRL", PKCS7: b"PKCS7",
     PUBLIC_KEY: b"PUBLIC KEY", PRIVATE_KEY: b"PRIVATE KEY", EC_KEY: b"EC PRIVATE KEY", RSA_KEY: b"RSA PRIVATE KEY",
 }
+# openssl knows no CR.
+NO_CR = ["LF", "CRLF"]
+ANY_STYLE = [*NO_CR, "CR"]
 SECONDS = 60
 # A tool's PEM is taken apart here without our calls: boundaries alone on their lines, and base 64 by Python.
 OWN_MESSAGE = re.compile(rb"^-----BEGIN ([^\n]*)-----\n([^-]*)-----END \1-----$", re.MULTILINE)
@@ -64,6 +68,7 @@ def certificates_of(text):
 
 
 class OpensslProgram:
+    styles = NO_CR
     anew = set()
     commands = {}
 
@@ -123,6 +128,7 @@ class Storeutl(OpensslProgram):
 
 class Certtool:
     name = "certtool"
+    styles = NO_CR  # CR alone it gets as one of the variations only
     writes = True
     # A private key comes out in the form of its algorithm, whichever form it came in.
     anew = PRIVATE_KEYS
@@ -154,6 +160,7 @@ class Certtool:
 
 class PythonSsl:
     name = "Python ssl"
+    styles = ANY_STYLE
     writes = True
     anew = set()
     commands = {CERTIFICATE: None}
@@ -178,6 +185,7 @@ class PythonSsl:
 
 class Cryptography:
     name = "cryptography"
+    styles = ANY_STYLE
     writes = True
     anew = set()
 
