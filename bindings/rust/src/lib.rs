@@ -5,7 +5,7 @@
 //! * [`read`](read()) reads one message that fills the text into a lent output.
 //! * [`label`](label()) hands back its label alone.
 //! * [`index`](index()) lists the messages of a bundle, as a chain of certificates.
-//! * [`write`](write()) writes one message as strict text.
+//! * [`write`](write()) writes one message as strict text, with the line ends that are asked for.
 //!
 //! Any bytes may come in. What a lent output or table holds afterwards depends on the input and its own length alone: the
 //! result and then zeros, or after a refusal zeros only. A text has at most one list of messages, whichever [`Grammar`] reads
@@ -44,6 +44,7 @@ extern crate alloc;
 
 mod grammar;
 mod index;
+mod line_end;
 #[cfg(feature = "alloc")]
 pub mod owned;
 mod place;
@@ -52,6 +53,7 @@ mod refusal;
 
 pub use grammar::{Grammar, UnknownGrammar};
 pub use index::{Entries, Entry, Index};
+pub use line_end::{LineEnding, LineStyle, UnknownLineEnding, UnknownLineStyle};
 pub use place::Place;
 pub use refusal::{Refusal, WriteRefusal};
 
@@ -69,8 +71,9 @@ pub const DATA_LIMIT: usize = 8_388_608;
 /// Room for the data of any text: 12,582,912 bytes, which belong on a heap. [`data_bound`] is that of one text.
 pub const READ_LIMIT: usize = data_bound(TEXT_LIMIT);
 
-/// Room for any text that is written: 11,359,735 bytes, which belong on a heap. [`written_size`] is that of one text.
-pub const WRITTEN_LIMIT: usize = written_size(LABEL_LIMIT, DATA_LIMIT);
+/// Room for any text that is written: 11,534,500 bytes, which belong on a heap; with LF or CR line ends it has at most
+/// 11,359,735. [`written_size`] is that of one text.
+pub const WRITTEN_LIMIT: usize = written_size(LABEL_LIMIT, DATA_LIMIT, LineEnding::CrLf);
 
 /// Room for the table of any text: 2,796,201 numbers or 11,184,804 bytes, which belong on a heap. [`table_bound`] is that of
 /// one text, and [`table_size`] that of so many messages.
@@ -115,12 +118,21 @@ const fn within_limit(text_length: usize) -> usize {
     }
 }
 
-/// How many bytes the text has that is written of a label and data of these lengths, both within their limits.
-pub const fn written_size(label_length: usize, data_length: usize) -> usize {
-    32 + 2 * label_length + 4 * data_length.div_ceil(3) + data_length.div_ceil(48)
+/// How many bytes the text has that is written of a label and data of these lengths, both within their limits, with this line
+/// end behind the boundaries and each data line.
+///
+/// ```
+/// use zullifern::{written_size, LineEnding};
+///
+/// assert_eq!(written_size(4, 3, LineEnding::Lf), "-----BEGIN NOTE-----\nZm9v\n-----END NOTE-----\n".len());
+/// assert_eq!(written_size(4, 3, LineEnding::CrLf), written_size(4, 3, LineEnding::Lf) + 3);
+/// ```
+pub const fn written_size(label_length: usize, data_length: usize, ending: LineEnding) -> usize {
+    let line_ends = 2 + data_length.div_ceil(48);
+    MESSAGE_LEAST + 2 * label_length + 4 * data_length.div_ceil(3) + ending.as_str().len() * line_ends
 }
 
-/// One message: its label and its data.
+/// One message: its label and its data, and which line ends it was found with.
 #[derive(Debug, Clone, Copy, PartialEq, Eq)]
 pub struct Message<'t, 'o> {
     /// The label, as the text's own part.
@@ -129,6 +141,8 @@ pub struct Message<'t, 'o> {
     pub label_offset: usize,
     /// The data, as the lent output's first bytes. Behind them it is zero.
     pub data: &'o [u8],
+    /// Which line ends the message has.
+    pub style: LineStyle,
 }
 
 /// Reads one message that fills the whole text. `vec![0; `[`data_bound`]`(text.len())]` has room for its data.
@@ -153,6 +167,7 @@ pub fn read<'t, 'o>(text: &'t [u8], grammar: Grammar, out: &'o mut [u8]) -> Resu
             label: label_at(text, report.label_offset as usize, report.label_length as usize),
             label_offset: report.label_offset as usize,
             data: &out[..report.size as usize],
+            style: style(&report),
         }),
         10 => Err(Refusal::OutputTooSmall {
             needed: report.size as usize,
@@ -212,22 +227,29 @@ pub fn index<'t, 'n>(text: &'t [u8], grammar: Grammar, table: &'n mut [u32]) -> 
     }
 }
 
-/// Writes a label and data as strict text with LF line ends. It needs [`written_size`] bytes.
+/// Writes a label and data as strict text with the line ends that are asked for. It needs [`written_size`] bytes.
 ///
 /// ```
-/// use zullifern::WriteRefusal;
+/// use zullifern::{LineEnding, WriteRefusal};
 ///
 /// let mut out = [0; 100];
-/// assert_eq!(zullifern::write("NOTE", b"foo", &mut out)?, "-----BEGIN NOTE-----\nZm9v\n-----END NOTE-----\n");
+/// let text = zullifern::write("NOTE", b"foo", LineEnding::Lf, &mut out)?;
+/// assert_eq!(text, "-----BEGIN NOTE-----\nZm9v\n-----END NOTE-----\n");
 ///
-/// assert_eq!(zullifern::write("NOTE-", b"foo", &mut out), Err(WriteRefusal::NotALabel));
+/// let refusal = zullifern::write("NOTE-", b"foo", LineEnding::Lf, &mut out).unwrap_err();
+/// assert_eq!(refusal, WriteRefusal::NotALabel);
 /// assert_eq!(out, [0; 100]);
 /// # Ok::<(), WriteRefusal>(())
 /// ```
-pub fn write<'o>(label: impl AsRef<[u8]>, data: &[u8], out: &'o mut [u8]) -> Result<&'o str, WriteRefusal> {
+pub fn write<'o>(
+    label: impl AsRef<[u8]>,
+    data: &[u8],
+    ending: LineEnding,
+    out: &'o mut [u8],
+) -> Result<&'o str, WriteRefusal> {
     let label = label.as_ref();
     let mut report = Report::default();
-    match raw::write(label, data, out, &mut report) {
+    match raw::write(label, data, ending.number(), out, &mut report) {
         0 => Ok(ascii(&out[..report.size as usize])),
         10 => Err(WriteRefusal::OutputTooSmall {
             needed: report.size as usize,
@@ -236,7 +258,8 @@ pub fn write<'o>(label: impl AsRef<[u8]>, data: &[u8], out: &'o mut [u8]) -> Res
         12 => Err(WriteRefusal::NotALabel),
         13 => Err(WriteRefusal::NoData),
         14 => Err(WriteRefusal::DataTooLong { length: data.len() }),
-        number => unreachable!("the write call has no number {number}"),
+        // 20 is not given to a known line end.
+        number => unreachable!("nothing is refused with the number {number}"),
     }
 }
 
@@ -254,6 +277,12 @@ fn refusal(text: &[u8], report: &Report) -> Refusal {
         9 => Refusal::SpareBits { place },
         number => unreachable!("no text is refused with the number {number}"),
     }
+}
+
+/// The style that the report of an accepted text tells.
+fn style(report: &Report) -> LineStyle {
+    let number = report.style as u32;
+    LineStyle::try_from(number).expect("the read call reports one of the five styles")
 }
 
 fn label_at(text: &[u8], offset: usize, length: usize) -> &str {

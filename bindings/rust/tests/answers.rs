@@ -1,6 +1,6 @@
 //! Every answer of the four calls, as the package gives it, and the text that a person reads.
 
-use zullifern::{Grammar, Place, Refusal, WriteRefusal};
+use zullifern::{Grammar, LineEnding, LineStyle, Place, Refusal, WriteRefusal};
 
 const M: &str = "-----BEGIN A-----\nZg==\n-----END A-----\n";
 
@@ -20,7 +20,7 @@ fn index_refusal(text: &str, grammar: Grammar) -> Refusal {
 
 fn write_refusal(label: &str, data: &[u8]) -> WriteRefusal {
     let mut out = [0xAA; 8];
-    let refusal = zullifern::write(label, data, &mut out).unwrap_err();
+    let refusal = zullifern::write(label, data, LineEnding::Lf, &mut out).unwrap_err();
     assert_eq!(out, [0; 8], "nothing is left in the output after {refusal}");
     refusal
 }
@@ -193,6 +193,7 @@ fn an_empty_label_and_an_empty_output_are_answers_too() {
     let text = b"-----BEGIN ----------END -----";
     let message = zullifern::read(text, Grammar::Lax, &mut []).unwrap();
     assert_eq!((message.label, message.label_offset, message.data), ("", 11, &b""[..]));
+    assert_eq!(message.style, LineStyle::NoLineEnd);
     assert_eq!(zullifern::label(text, Grammar::Lax), "");
 }
 
@@ -238,6 +239,106 @@ fn spare_bits_are_dropped_by_lax_alone() {
     }
 }
 
+/// M with these line ends, in their order.
+fn with_ends(ends: [&str; 3]) -> String {
+    let lines = M.lines().zip(ends);
+    lines.map(|(line, end)| format!("{line}{end}")).collect()
+}
+
+fn style_of(text: &str, grammar: Grammar) -> LineStyle {
+    zullifern::read(text.as_bytes(), grammar, &mut [0; 3]).unwrap().style
+}
+
+#[test]
+fn read_tells_which_line_ends_there_are() {
+    for grammar in Grammar::ALL {
+        for ending in LineEnding::ALL {
+            let text = with_ends([ending.as_str(); 3]);
+            assert_eq!(style_of(&text, grammar), LineStyle::Only(ending));
+        }
+        for ends in [["\n", "\n", "\r\n"], ["\r", "\n", "\n"], ["\r\n", "\r", "\r\n"]] {
+            assert_eq!(style_of(&with_ends(ends), grammar), LineStyle::Mixed);
+        }
+    }
+}
+
+#[test]
+fn under_lax_all_line_ends_count_and_other_white_does_not() {
+    let (lf, crlf, cr) = (LineEnding::Lf, LineEnding::CrLf, LineEnding::Cr);
+    let places = [
+        "*-----BEGIN A-----Zm9v-----END A-----",
+        "-----BEGIN A-----Zm*9v-----END A-----",
+        "-----BEGIN A-----Zm9v-----END A-----*",
+    ];
+    let styles = [
+        (" \t\x0b\x0c", LineStyle::NoLineEnd),
+        ("\x0b\n\x0c\n", LineStyle::Only(lf)),
+        ("\r\n \r\n", LineStyle::Only(crlf)),
+        ("\r\r \r", LineStyle::Only(cr)),
+        ("\n\r", LineStyle::Mixed),
+        ("\r\r\n", LineStyle::Mixed),
+        ("\r\n\r", LineStyle::Mixed),
+    ];
+    for (place, (white, style)) in places.iter().flat_map(|place| styles.map(|style| (place, style))) {
+        assert_eq!(style_of(&place.replace('*', white), Grammar::Lax), style);
+    }
+}
+
+#[test]
+fn what_is_written_has_the_line_ends_asked_for() {
+    for (ending, length) in LineEnding::ALL
+        .into_iter()
+        .flat_map(|ending| [1, 48, 49].map(|length| (ending, length)))
+    {
+        let (data, mut out, mut back) = ([0x5A; 49], [0xAA; 200], [0; 49]);
+        let text = zullifern::write("A", &data[..length], ending, &mut out).unwrap();
+        assert_eq!(text.len(), zullifern::written_size(1, length, ending));
+        assert_eq!(text.split(ending.as_str()).count(), 4 + length / 49);
+        let message = zullifern::read(text.as_bytes(), Grammar::Strict, &mut back).unwrap();
+        assert_eq!(
+            (message.data, message.style),
+            (&data[..length], LineStyle::Only(ending))
+        );
+    }
+}
+
+#[test]
+fn line_ends_have_numbers_and_names() {
+    for ending in LineEnding::ALL {
+        assert_eq!(LineEnding::try_from(ending.number()), Ok(ending));
+        assert_eq!(ending.to_string().parse(), Ok(ending));
+        assert_eq!(LineStyle::from(ending).ending(), Some(ending));
+        assert_eq!(LineStyle::from(ending).number(), ending.number());
+    }
+    let unknown = "lf".parse::<LineEnding>().unwrap_err();
+    assert_eq!(
+        unknown.to_string(),
+        "unknown line end: it is LF (1), CRLF (2) or CR (3)"
+    );
+    assert!([0, 4, 257, u32::MAX]
+        .into_iter()
+        .all(|number| LineEnding::try_from(number).is_err()));
+}
+
+#[test]
+fn styles_have_numbers_and_names() {
+    for (number, style) in (0..).zip(LineStyle::ALL) {
+        assert_eq!(style.number(), number);
+        assert_eq!(LineStyle::try_from(number), Ok(style));
+    }
+    assert_eq!(
+        LineStyle::ALL.map(LineStyle::name),
+        ["none", "LF", "CRLF", "CR", "mixed"]
+    );
+    assert_eq!(LineStyle::Mixed.to_string(), "mixed");
+    assert_eq!((LineStyle::NoLineEnd.ending(), LineStyle::Mixed.ending()), (None, None));
+    let unknown = LineStyle::try_from(5).unwrap_err();
+    assert_eq!(
+        unknown.to_string(),
+        "unknown style of line ends: it is none (0), LF (1), CRLF (2), CR (3) or mixed (4)"
+    );
+}
+
 #[test]
 fn grammars_have_numbers_and_names() {
     for grammar in Grammar::ALL {
@@ -252,6 +353,27 @@ fn grammars_have_numbers_and_names() {
     assert!(Grammar::try_from(0).is_err() && Grammar::try_from(257).is_err());
 }
 
+/// Each message in the style in which it was read.
+#[cfg(feature = "alloc")]
+fn written_again(messages: &[zullifern::owned::Message]) -> String {
+    let written = |message: &zullifern::owned::Message| {
+        let ending = message.style.ending().unwrap();
+        zullifern::owned::write(&message.label, &message.data, ending).unwrap()
+    };
+    messages.iter().map(written).collect()
+}
+
+#[cfg(feature = "alloc")]
+#[test]
+fn strict_texts_are_restored_each_in_its_own_style() {
+    let chain = include_str!("../../../examples/chain.pem");
+    for ending in LineEnding::ALL {
+        let chain = chain.replace('\n', ending.as_str()) + M;
+        let messages = zullifern::owned::read_bundle(chain.as_bytes(), Grammar::Strict).unwrap();
+        assert_eq!(written_again(&messages), chain);
+    }
+}
+
 #[cfg(feature = "alloc")]
 #[test]
 fn a_chain_of_certificates_is_read_whole_and_written_again() {
@@ -261,11 +383,8 @@ fn a_chain_of_certificates_is_read_whole_and_written_again() {
         messages.iter().map(|message| message.data.len()).collect::<Vec<_>>(),
         [536, 468, 464]
     );
-    let again: String = messages
-        .iter()
-        .map(|m| zullifern::owned::write(&m.label, &m.data).unwrap())
-        .collect();
-    assert_eq!(again, chain);
+    assert!(messages.iter().all(|message| message.style == LineEnding::Lf.into()));
+    assert_eq!(written_again(&messages), chain);
     let torn = &chain.as_bytes()[..chain.len() - 1];
     assert_eq!(
         zullifern::owned::read_bundle(torn, Grammar::Strict)

@@ -1,6 +1,6 @@
 //! The package's limits are those of the library, each tried with what is lent on the heap.
 
-use zullifern::{data_bound, table_bound, Grammar, Refusal, WriteRefusal};
+use zullifern::{data_bound, table_bound, written_size, Grammar, LineEnding, Refusal, WriteRefusal};
 use zullifern::{DATA_LIMIT, LABEL_LIMIT, READ_LIMIT, TABLE_LIMIT, TEXT_LIMIT, WRITTEN_LIMIT};
 
 /// How many groups of four characters, and how many messages, a text within its limit has at most.
@@ -46,19 +46,28 @@ fn text_and_its_table() {
 
 #[test]
 fn label_data_and_their_text() {
-    assert_eq!((DATA_LIMIT, WRITTEN_LIMIT), (8_388_608, 11_359_735));
+    assert_eq!((DATA_LIMIT, WRITTEN_LIMIT), (8_388_608, 11_534_500));
+    let largest = LineEnding::ALL.map(|ending| written_size(LABEL_LIMIT, DATA_LIMIT, ending));
+    assert_eq!(largest, [11_359_735, 11_534_500, 11_359_735]);
     let label = "A".repeat(LABEL_LIMIT);
     let mut data = vec![0x5A; DATA_LIMIT];
     let mut out = vec![0xAA; WRITTEN_LIMIT];
-    let written = zullifern::write(&label, &data, &mut out).map(str::len);
-    assert_eq!(written, Ok(WRITTEN_LIMIT));
-    let refusal = WriteRefusal::OutputTooSmall { needed: WRITTEN_LIMIT };
-    assert_eq!(zullifern::write(&label, &data, &mut out[1..]).err(), Some(refusal));
+    for (ending, needed) in LineEnding::ALL.into_iter().zip(largest) {
+        let written = zullifern::write(&label, &data, ending, &mut out[..needed]).map(str::len);
+        assert_eq!(written, Ok(needed));
+        let refusal = WriteRefusal::OutputTooSmall { needed };
+        let lent = &mut out[..needed - 1];
+        assert_eq!(zullifern::write(&label, &data, ending, lent).err(), Some(refusal));
+    }
     data.push(0);
     let refusal = WriteRefusal::DataTooLong { length: data.len() };
-    assert_eq!(zullifern::write(&label, &data, &mut out).err(), Some(refusal));
+    let ending = LineEnding::CrLf;
+    assert_eq!(zullifern::write(&label, &data, ending, &mut out).err(), Some(refusal));
     let refusal = WriteRefusal::LabelTooLong { length: 65 };
-    assert_eq!(zullifern::write(label + "A", b"f", &mut out).err(), Some(refusal));
+    assert_eq!(
+        zullifern::write(label + "A", b"f", ending, &mut out).err(),
+        Some(refusal)
+    );
 }
 
 #[test]
@@ -88,7 +97,7 @@ fn what_is_too_long_is_refused_without_the_memory_for_it() {
     assert_eq!(owned::read(&long, Grammar::Lax).err(), Some(refusal));
     assert_eq!(owned::read_bundle(&long, Grammar::Lax).err(), Some(refusal));
     let refusal = WriteRefusal::DataTooLong { length };
-    assert_eq!(owned::write("A", &long).err(), Some(refusal));
+    assert_eq!(owned::write("A", &long, LineEnding::Lf).err(), Some(refusal));
     let refusal = WriteRefusal::LabelTooLong { length };
-    assert_eq!(owned::write(&long, &long).err(), Some(refusal));
+    assert_eq!(owned::write(&long, &long, LineEnding::Lf).err(), Some(refusal));
 }

@@ -1,8 +1,8 @@
 //! The calls of the package against the raw ones, on every start and many damages of a small bundle: the same number, place,
-//! size, label and bytes, and no call stops.
+//! size, label, line ends and bytes, and no call stops.
 
 use zullifern::raw::{self, Report};
-use zullifern::{Grammar, Refusal, WriteRefusal};
+use zullifern::{Grammar, LineEnding, Refusal, WriteRefusal};
 
 const BUNDLE: &[u8] = b"-----BEGIN A-----\nZg==\n-----END A-----\n-----BEGIN B C-----\r\nZm9v\r-----END B C-----\n";
 const MESSAGE: usize = 39;
@@ -37,9 +37,10 @@ fn texts() -> Vec<Vec<u8>> {
         .collect()
 }
 
-/// The refusal has the number and the place of the report, or what 10 needs.
+/// The refusal has the number and the place of the report, or what 10 needs. No style is told.
 fn same_refusal(refusal: Refusal, report: &Report) {
     assert_eq!(u64::from(refusal.number()), report.number);
+    assert_eq!(report.style, 0);
     assert_eq!(refusal.place().map_or(0, |place| place.offset as u64), report.place);
     if let Refusal::OutputTooSmall { needed } | Refusal::TableTooSmall { needed } = refusal {
         assert_eq!(needed as u64, report.size);
@@ -53,6 +54,7 @@ fn try_read(text: &[u8], grammar: Grammar, room: usize) {
         Ok(message) => {
             assert_eq!(report.number, 0);
             assert_eq!(message.data, &plain[..report.size as usize]);
+            assert_eq!(u64::from(message.style.number()), report.style);
             assert_eq!(
                 (message.label_offset, message.label.len()),
                 (report.label_offset as usize, report.label_length as usize)
@@ -96,15 +98,15 @@ fn read_label_and_index_answer_as_the_raw_calls_do() {
     }
 }
 
-fn try_write(label: &[u8], data: &[u8], room: usize) {
+fn try_write(label: &[u8], data: &[u8], ending: LineEnding, room: usize) {
     let (mut out, mut plain, mut report) = (vec![0xAA; room], vec![0x55; room], Report::default());
-    raw::write(label, data, &mut plain, &mut report);
-    match zullifern::write(label, data, &mut out) {
+    raw::write(label, data, ending.number(), &mut plain, &mut report);
+    match zullifern::write(label, data, ending, &mut out) {
         Ok(text) => assert_eq!((report.number, text.as_bytes()), (0, &plain[..report.size as usize])),
         Err(refusal) => {
             assert_eq!(u64::from(refusal.number()), report.number);
             if let WriteRefusal::OutputTooSmall { needed } = refusal {
-                assert_eq!(needed, zullifern::written_size(label.len(), data.len()));
+                assert_eq!(needed, zullifern::written_size(label.len(), data.len(), ending));
                 assert_eq!(needed as u64, report.size);
             }
         }
@@ -117,14 +119,31 @@ fn write_answers_as_the_raw_call_does() {
     let pairs = (0..=255).flat_map(|a| DAMAGES.iter().map(move |&b| vec![a, b]));
     let labels = pairs.chain([vec![], vec![b'A'; 64], vec![b'A'; 65]]);
     for label in labels {
-        for size in [0, 1, 2, 3, 48, 49] {
-            try_write(&label, &vec![0x5A; size], 60);
+        for ending in LineEnding::ALL {
+            for size in [0, 1, 2, 3, 48, 49] {
+                try_write(&label, &vec![0x5A; size], ending, 60);
+            }
+            try_write(&label, &[0x5A; 49], ending, 300);
         }
-        try_write(&label, &[0x5A; 49], 300);
     }
     for label in [vec![], vec![b'A'; 64], vec![b'A'; 65], vec![b'-']] {
         for size in [zullifern::DATA_LIMIT, zullifern::DATA_LIMIT + 1] {
-            try_write(&label, &vec![0x5A; size], 60);
+            try_write(&label, &vec![0x5A; size], LineEnding::CrLf, 60);
         }
+    }
+}
+
+/// What no type of the package can ask for: the raw calls answer it, and leave nothing.
+#[test]
+fn unknown_grammars_and_styles_are_answered() {
+    for number in [0, 4, 257, u32::MAX] {
+        let (mut out, mut report) = ([0xAA; 60], Report::default());
+        assert_eq!(raw::read(&BUNDLE[..MESSAGE], number, &mut out, &mut report), 1);
+        assert_eq!((out, report.number, report.size), ([0; 60], 1, 0));
+        let mut out = [0xAA; 60];
+        assert_eq!(raw::write(b"A", b"f", number, &mut out, &mut report), 20);
+        assert_eq!((out, report.number, report.size), ([0; 60], 20, 0));
+        assert_eq!(raw::write(b"A", b"f", number, &mut [], &mut report), 20);
+        assert_eq!(raw::write(b"A", b"", number, &mut [], &mut report), 13);
     }
 }
