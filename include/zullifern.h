@@ -7,7 +7,7 @@
  *   - each pointer points to as many items as the length behind it says, and is not NULL, not even where that is 0;
  *   - an output, a table or a report overlaps nothing else that is passed in the same call.
  *
- * Any bytes, any grammar number and any lengths may come in. What a lent output or table holds after a call depends on the
+ * Any bytes, any grammar or style number and any lengths may come in. What a lent output or table holds after a call depends on the
  * input and on its own length alone, never on what it held before: the result and then zeros where the answer is 0, and
  * zeros only where it is not. The calls keep nothing between them and may run in any number of threads at once.
  */
@@ -29,7 +29,19 @@ enum zullifern_grammar {
     ZULLIFERN_STRICT = 3    /* lines of 64 characters but for the last, no blanks, spare bits zero: what is written */
 };
 
-/* The numbers that a call may answer. Readers check in the order 1 to 10, the writer 11 to 14 and then 10. */
+/*
+ * Styles of line ends: what the read call tells of the message, all of whose line ends count, and of these what the write call
+ * takes. CR followed by LF is one line end. VT and FF are none.
+ */
+enum zullifern_style {
+    ZULLIFERN_NO_LINE_ENDS = 0,   /* told only: there are none, which lax alone takes */
+    ZULLIFERN_LF = 1,
+    ZULLIFERN_CRLF = 2,
+    ZULLIFERN_CR = 3,
+    ZULLIFERN_MIXED_LINE_ENDS = 4 /* told only: there are some of more than one kind */
+};
+
+/* The numbers that a call may answer. Readers check in the order 1 to 10, the writer 11 to 14, then 20 and then 10. */
 enum zullifern_number {
     ZULLIFERN_ACCEPTED = 0,
     ZULLIFERN_UNKNOWN_GRAMMAR = 1,  /* the grammar's number is not 1, 2 or 3 */
@@ -45,7 +57,8 @@ enum zullifern_number {
     ZULLIFERN_WRITE_LABEL_TOO_LONG = 11, /* the label is over ZULLIFERN_LABEL_LIMIT bytes */
     ZULLIFERN_WRITE_NOT_A_LABEL = 12,    /* it is none: empty, or 33 to 126 with one hyphen or space at most between two others */
     ZULLIFERN_WRITE_NO_DATA = 13,        /* there are no data */
-    ZULLIFERN_WRITE_DATA_TOO_LONG = 14   /* the data are over ZULLIFERN_DATA_LIMIT bytes */
+    ZULLIFERN_WRITE_DATA_TOO_LONG = 14,  /* the data are over ZULLIFERN_DATA_LIMIT bytes */
+    ZULLIFERN_WRITE_UNKNOWN_STYLE = 20   /* the style's number is not 1, 2 or 3 */
 };
 
 /* Limits, in bytes. */
@@ -57,26 +70,30 @@ enum zullifern_number {
 #define ZULLIFERN_ENTRY_NUMBERS 5
 #define ZULLIFERN_TABLE_SIZE(count) (1 + ZULLIFERN_ENTRY_NUMBERS * (size_t)(count))
 
-/* How many bytes the text has that is written of a label and data of these lengths, both within their limits. */
-#define ZULLIFERN_WRITTEN_SIZE(label_length, data_length)                                                                 \
-    (32 + 2 * (size_t)(label_length) + 4 * (((size_t)(data_length) + 2) / 3) + ((size_t)(data_length) + 47) / 48)
+/* The bytes of the shortest message: both boundaries with an empty label and nothing between them, which lax takes. */
+#define ZULLIFERN_MESSAGE_LEAST 30
+
+/* How many lines the text has that is written of data of this length: those of the data, and the two boundaries. */
+#define ZULLIFERN_WRITTEN_LINES(data_length) (2 + ((size_t)(data_length) + 47) / 48)
+
+/* How many bytes it has under a label of this length, both within their limits, with line ends of this style. */
+#define ZULLIFERN_WRITTEN_SIZE(label_length, data_length, style)                                                          \
+    (ZULLIFERN_MESSAGE_LEAST + 2 * (size_t)(label_length) + 4 * (((size_t)(data_length) + 2) / 3)                         \
+     + ((style) == ZULLIFERN_CRLF ? 2 : 1) * ZULLIFERN_WRITTEN_LINES(data_length))
 
 /* Room for the data of any text of this length: four characters give three bytes. */
 #define ZULLIFERN_READ_BOUND(text_length) ((size_t)(text_length) / 4 * 3)
-
-/* The bytes of the shortest message: both boundaries with an empty label and nothing between them, which lax takes. */
-#define ZULLIFERN_MESSAGE_LEAST 30
 
 /* Room for the table of any text of this length, in numbers. */
 #define ZULLIFERN_TABLE_BOUND(text_length) ZULLIFERN_TABLE_SIZE((size_t)(text_length) / ZULLIFERN_MESSAGE_LEAST)
 
 /*
- * The same at the limits: room for the data of any text, 12,582,912 bytes, for any text that is written, 11,359,735 bytes, and
- * for any table, 2,796,201 numbers (of 559,240 messages). Buffers of these sizes belong on no stack. Each call writes the whole
- * of what it is lent, so rather lend what your own input needs, by the above.
+ * The same at the limits: room for the data of any text, 12,582,912 bytes, for any text that is written, 11,534,500 bytes (with
+ * LF or CR it has at most 11,359,735), and for any table, 2,796,201 numbers (of 559,240 messages). Buffers of these sizes belong
+ * on no stack. Each call writes the whole of what it is lent, so rather lend what your own input needs, by the above.
  */
 #define ZULLIFERN_READ_LIMIT ZULLIFERN_READ_BOUND(ZULLIFERN_TEXT_LIMIT)
-#define ZULLIFERN_WRITTEN_LIMIT ZULLIFERN_WRITTEN_SIZE(ZULLIFERN_LABEL_LIMIT, ZULLIFERN_DATA_LIMIT)
+#define ZULLIFERN_WRITTEN_LIMIT ZULLIFERN_WRITTEN_SIZE(ZULLIFERN_LABEL_LIMIT, ZULLIFERN_DATA_LIMIT, ZULLIFERN_CRLF)
 #define ZULLIFERN_TABLE_LIMIT ZULLIFERN_TABLE_BOUND(ZULLIFERN_TEXT_LIMIT)
 
 /* What a call tells of its answer: eight numbers, all of which each call sets. */
@@ -86,7 +103,9 @@ struct zullifern_report {
     uint64_t size;         /* what the result needs for 0 and 10, else 0: bytes, or numbers of the table */
     uint64_t label_offset; /* read and label: where the opening label starts in the text */
     uint64_t label_length; /* read and label: its length; both are 0 unless the text passed the checks 1 to 9 */
-    uint64_t reserved[3];  /* 0 */
+    uint64_t reserved5;    /* 0 */
+    uint64_t style;        /* read: a zullifern_style, 0 unless the number is 0 */
+    uint64_t reserved7;    /* 0 */
 };
 
 /* The numbers of a table that belong to one message; offsets are those in the bundle. The first entry is at table + 1. */
@@ -100,7 +119,7 @@ struct zullifern_entry {
 
 /*
  * Reads one message that fills the whole text, and answers 0 to 10. After 0 the data are the first report->size bytes of out,
- * and the label is the part of the text that the report tells.
+ * the label is the part of the text that the report tells, and report->style is which line ends the text has.
  */
 uint32_t zullifern_read(const uint8_t *text, size_t text_length, uint32_t grammar, uint8_t *out, size_t out_length,
                         struct zullifern_report *report);
@@ -119,11 +138,11 @@ uint32_t zullifern_index(const uint8_t *text, size_t text_length, uint32_t gramm
                          struct zullifern_report *report);
 
 /*
- * Writes a label and data as strict text with LF line ends, and answers 0 or 10 to 14. After 0 the text is the first
- * report->size bytes of out; no zero byte is put behind it where it fills the output.
+ * Writes a label and data as strict text with line ends of the style, and answers 0, 10 to 14 or 20. After 0 the text is the
+ * first report->size bytes of out; no zero byte is put behind it where it fills the output.
  */
-uint32_t zullifern_write(const uint8_t *label, size_t label_length, const uint8_t *data, size_t data_length, uint8_t *out,
-                         size_t out_length, struct zullifern_report *report);
+uint32_t zullifern_write(const uint8_t *label, size_t label_length, const uint8_t *data, size_t data_length, uint32_t style,
+                         uint8_t *out, size_t out_length, struct zullifern_report *report);
 
 #ifdef __cplusplus
 }

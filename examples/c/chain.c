@@ -38,6 +38,18 @@ static const char *meaning(uint32_t number)
     }
 }
 
+/* Which line ends a message has: support asks for it first. */
+static const char *line_ends(uint64_t style)
+{
+    switch (style) {
+    case ZULLIFERN_NO_LINE_ENDS: return "no line ends";
+    case ZULLIFERN_LF: return "LF line ends";
+    case ZULLIFERN_CRLF: return "CRLF line ends";
+    case ZULLIFERN_CR: return "CR line ends";
+    default: return "mixed line ends";
+    }
+}
+
 static int refused(uint64_t number, uint64_t place)
 {
     printf("refused with %u at offset %u: %s\n", (unsigned)number, (unsigned)place, meaning((uint32_t)number));
@@ -60,8 +72,8 @@ static int show(unsigned k, const struct zullifern_entry *entry)
     }
     if (zullifern_read(text + entry->start, entry->length, ZULLIFERN_LAX, der, sizeof der, &report) != ZULLIFERN_ACCEPTED)
         return refused(report.number, report.place);
-    printf("%u: certificate of %u bytes at offset %u, starting %02x %02x\n", k, (unsigned)report.size,
-           (unsigned)entry->start, der[0], der[1]);
+    printf("%u: certificate of %u bytes at offset %u, starting %02x %02x, %s\n", k, (unsigned)report.size,
+           (unsigned)entry->start, der[0], der[1], line_ends(report.style));
     return 0;
 }
 

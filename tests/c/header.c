@@ -6,7 +6,8 @@
 
 #include "zullifern.h"
 
-#define M "-----BEGIN A-----\nZg==\n-----END A-----\n"
+#define M_WITH(end) "-----BEGIN A-----" end "Zg==" end "-----END A-----" end
+#define M M_WITH("\n")
 #define OPENING "-----BEGIN -----"
 #define CLOSING "-----END -----"
 #define SHORTEST OPENING CLOSING
@@ -19,7 +20,10 @@
 static_assert(sizeof(struct zullifern_report) == 8 * sizeof(uint64_t), "a report is eight numbers");
 static_assert(sizeof(struct zullifern_entry) == ZULLIFERN_ENTRY_NUMBERS * sizeof(uint32_t), "an entry is five numbers");
 static_assert(ZULLIFERN_TEXT_LIMIT == 16777216 && ZULLIFERN_DATA_LIMIT == 8388608, "limits of what comes in");
-static_assert(ZULLIFERN_READ_LIMIT == 12582912 && ZULLIFERN_WRITTEN_LIMIT == 11359735, "limits of what is lent");
+static_assert(offsetof(struct zullifern_report, style) == 6 * sizeof(uint64_t), "the style is the report's seventh number");
+static_assert(ZULLIFERN_READ_LIMIT == 12582912 && ZULLIFERN_WRITTEN_LIMIT == 11534500, "limits of what is lent");
+static_assert(ZULLIFERN_WRITTEN_SIZE(64, ZULLIFERN_DATA_LIMIT, ZULLIFERN_LF) == 11359735, "the largest text with LF");
+static_assert(ZULLIFERN_WRITTEN_SIZE(64, ZULLIFERN_DATA_LIMIT, ZULLIFERN_CR) == 11359735, "the largest text with CR");
 static_assert(ZULLIFERN_TABLE_LIMIT == 2796201 && ZULLIFERN_TABLE_SIZE(MOST_MESSAGES) == 2796201, "the largest table");
 static_assert(sizeof SHORTEST - 1 == ZULLIFERN_MESSAGE_LEAST, "the shortest message");
 
@@ -37,23 +41,33 @@ static void same(const char *what, uint64_t found, uint64_t expected)
     }
 }
 
-static void reads(const char *given, uint32_t grammar, size_t room, uint32_t number, uint64_t place)
+/* Reads with enough room, or with none, and looks at all of the report but the size and the label. */
+static void reads_as(const char *given, uint32_t grammar, size_t room, uint32_t number, uint64_t place, uint64_t style)
 {
     struct zullifern_report report;
     memset(&report, 0xAA, sizeof report);
     same(given, zullifern_read((const uint8_t *)given, strlen(given), grammar, out, room, &report), number);
     same("the report's number", report.number, number);
     same("the report's place", report.place, place);
-    same("the report's reserved numbers", report.reserved[0] | report.reserved[1] | report.reserved[2], 0);
+    same("the report's style", report.style, style);
+    same("the report's reserved numbers", report.reserved5 | report.reserved7, 0);
 }
 
-static void writes(const char *label, size_t size, size_t room, uint32_t number)
+/* The same for texts whose line ends are LF. On a refusal no style is told. */
+static void reads(const char *given, uint32_t grammar, size_t room, uint32_t number, uint64_t place)
+{
+    reads_as(given, grammar, room, number, place, number == ZULLIFERN_ACCEPTED ? ZULLIFERN_LF : 0);
+}
+
+static void writes(const char *label, size_t size, uint32_t style, size_t room, uint32_t number)
 {
     struct zullifern_report report;
     size_t length = strlen(label);
-    same(label, zullifern_write((const uint8_t *)label, length, data, size, out, room, &report), number);
+    memset(&report, 0xAA, sizeof report);
+    same(label, zullifern_write((const uint8_t *)label, length, data, size, style, out, room, &report), number);
+    same("the report's place and its last numbers", report.place | report.reserved5 | report.style | report.reserved7, 0);
     if (number == ZULLIFERN_ACCEPTED || number == ZULLIFERN_NO_ROOM)
-        same("the written size", report.size, ZULLIFERN_WRITTEN_SIZE(length, size));
+        same("the written size", report.size, ZULLIFERN_WRITTEN_SIZE(length, size, style));
 }
 
 static void numbers_of_read(void)
@@ -75,12 +89,25 @@ static void numbers_of_read(void)
     reads(M, ZULLIFERN_LAX, 0, ZULLIFERN_NO_ROOM, 0);
 }
 
+static void styles_of_read(void)
+{
+    reads_as(SHORTEST, ZULLIFERN_LAX, 0, ZULLIFERN_ACCEPTED, 0, ZULLIFERN_NO_LINE_ENDS);
+    reads_as(SHORTEST "\v\f ", ZULLIFERN_LAX, 0, ZULLIFERN_ACCEPTED, 0, ZULLIFERN_NO_LINE_ENDS);
+    reads_as(M_WITH("\n"), ZULLIFERN_STRICT, 1, ZULLIFERN_ACCEPTED, 0, ZULLIFERN_LF);
+    reads_as(M_WITH("\r\n"), ZULLIFERN_STRICT, 1, ZULLIFERN_ACCEPTED, 0, ZULLIFERN_CRLF);
+    reads_as(M_WITH("\r"), ZULLIFERN_STRICT, 1, ZULLIFERN_ACCEPTED, 0, ZULLIFERN_CR);
+    reads_as(M_WITH("\r") "\n", ZULLIFERN_STRICT, 1, ZULLIFERN_ACCEPTED, 0, ZULLIFERN_MIXED_LINE_ENDS);
+    reads_as(M_WITH("\r\n"), ZULLIFERN_STRICT, 0, ZULLIFERN_NO_ROOM, 0, 0);
+}
+
 static void label_call(void)
 {
     struct zullifern_report report;
+    memset(&report, 0xAA, sizeof report);
     same("the label call", zullifern_label((const uint8_t *)M, strlen(M), ZULLIFERN_STRICT, &report), 0);
     same("the label's offset", report.label_offset, 11);
     same("the label's length", report.label_length, 1);
+    same("its report's last numbers", report.reserved5 | report.style | report.reserved7, 0);
 }
 
 static void index_call(void)
@@ -88,11 +115,13 @@ static void index_call(void)
     struct zullifern_report report;
     struct zullifern_entry entry;
     uint8_t *end = text;
+    memset(&report, 0xAA, sizeof report);
     for (int k = 0; k < 2; k++)
         end = (uint8_t *)memcpy(end, M, strlen(M)) + strlen(M);
     same("the index call",
          zullifern_index(text, (size_t)(end - text), ZULLIFERN_STRICT, table, ZULLIFERN_TABLE_SIZE(2), &report), 0);
     same("the table's size", report.size, ZULLIFERN_TABLE_SIZE(2));
+    same("its report's last numbers", report.reserved5 | report.style | report.reserved7, 0);
     same("the count", table[0], 2);
     memcpy(&entry, table + ZULLIFERN_TABLE_SIZE(1), sizeof entry);
     same("the second start", entry.start, 39);
@@ -104,18 +133,51 @@ static void index_call(void)
 
 static void numbers_of_write(void)
 {
-    writes(LABEL_65, 1, sizeof out, ZULLIFERN_WRITE_LABEL_TOO_LONG);
-    writes("A-", 1, sizeof out, ZULLIFERN_WRITE_NOT_A_LABEL);
-    writes("A", 0, sizeof out, ZULLIFERN_WRITE_NO_DATA);
-    for (size_t size = 1; size <= 200; size++)
-        writes("RSA PRIVATE KEY", size, ZULLIFERN_WRITTEN_SIZE(15, size) - size % 2, size % 2 ? ZULLIFERN_NO_ROOM : ZULLIFERN_ACCEPTED);
+    writes(LABEL_65, 1, ZULLIFERN_LF, sizeof out, ZULLIFERN_WRITE_LABEL_TOO_LONG);
+    writes("A-", 1, ZULLIFERN_LF, sizeof out, ZULLIFERN_WRITE_NOT_A_LABEL);
+    writes("A", 0, ZULLIFERN_LF, sizeof out, ZULLIFERN_WRITE_NO_DATA);
+    for (uint32_t style = ZULLIFERN_LF; style <= ZULLIFERN_CR; style++)
+        for (size_t size = 1; size <= 200; size++)
+            writes("RSA PRIVATE KEY", size, style, ZULLIFERN_WRITTEN_SIZE(15, size, style) - size % 2,
+                   size % 2 ? ZULLIFERN_NO_ROOM : ZULLIFERN_ACCEPTED);
+}
+
+/* It is refused behind all that is wrong with the label and the data, and before the room. */
+static void unknown_style(uint32_t style)
+{
+    writes("A", 1, style, sizeof out, ZULLIFERN_WRITE_UNKNOWN_STYLE);
+    writes("A", 1, style, 0, ZULLIFERN_WRITE_UNKNOWN_STYLE);
+    writes("A", 0, style, 0, ZULLIFERN_WRITE_NO_DATA);
+    writes("A", sizeof data, style, 0, ZULLIFERN_WRITE_DATA_TOO_LONG);
+}
+
+static void written_text(uint32_t style, const char *expected)
+{
+    struct zullifern_report report;
+    size_t size = strlen(expected);
+    memset(out, 0xAA, size);
+    same("the write call", zullifern_write((const uint8_t *)"A", 1, (const uint8_t *)"f", 1, style, out, size, &report), 0);
+    same("the written text", memcmp(out, expected, size) == 0, 1);
+}
+
+static void styles_of_write(void)
+{
+    written_text(ZULLIFERN_LF, M_WITH("\n"));
+    written_text(ZULLIFERN_CRLF, M_WITH("\r\n"));
+    written_text(ZULLIFERN_CR, M_WITH("\r"));
+    unknown_style(ZULLIFERN_NO_LINE_ENDS);
+    unknown_style(ZULLIFERN_MIXED_LINE_ENDS);
+    unknown_style(257);
+    unknown_style(UINT32_MAX);
 }
 
 static void data_at_the_limit(void)
 {
-    writes("A", sizeof data, 1, ZULLIFERN_WRITE_DATA_TOO_LONG);
-    writes(LABEL_65 + 1, ZULLIFERN_DATA_LIMIT, ZULLIFERN_WRITTEN_LIMIT - 1, ZULLIFERN_NO_ROOM);
-    writes(LABEL_65 + 1, ZULLIFERN_DATA_LIMIT, ZULLIFERN_WRITTEN_LIMIT, ZULLIFERN_ACCEPTED);
+    const char *label = &LABEL_65[1];
+    writes("A", sizeof data, ZULLIFERN_LF, 1, ZULLIFERN_WRITE_DATA_TOO_LONG);
+    writes(label, ZULLIFERN_DATA_LIMIT, ZULLIFERN_CRLF, ZULLIFERN_WRITTEN_LIMIT - 1, ZULLIFERN_NO_ROOM);
+    writes(label, ZULLIFERN_DATA_LIMIT, ZULLIFERN_CRLF, ZULLIFERN_WRITTEN_LIMIT, ZULLIFERN_ACCEPTED);
+    writes(label, ZULLIFERN_DATA_LIMIT, ZULLIFERN_LF, ZULLIFERN_WRITTEN_LIMIT, ZULLIFERN_ACCEPTED);
 }
 
 /* The most data that a text can hold, which white behind it brings to the limit. */
@@ -154,9 +216,11 @@ static void table_at_the_limit(void)
 int main(void)
 {
     numbers_of_read();
+    styles_of_read();
     label_call();
     index_call();
     numbers_of_write();
+    styles_of_write();
     data_at_the_limit();
     text_at_the_limit();
     table_at_the_limit();
