@@ -7,9 +7,9 @@
  *   - each pointer points to as many items as the length behind it says, and is not NULL, not even where that is 0;
  *   - an output, a table or a report overlaps nothing else that is passed in the same call.
  *
- * Any bytes, any grammar or style number and any lengths may come in. What a lent output or table holds after a call depends on the
- * input and on its own length alone, never on what it held before: the result and then zeros where the answer is 0, and
- * zeros only where it is not. The calls keep nothing between them and may run in any number of threads at once.
+ * Any bytes, any grammar or style number and any lengths may come in. What a lent output or table holds after a call depends
+ * on the input and on its own length alone, never on what it held before: the result and then zeros where the answer is 0,
+ * and zeros only where it is not. The calls keep nothing between them and may run in any number of threads at once.
  */
 #ifndef ZULLIFERN_H
 #define ZULLIFERN_H
@@ -88,9 +88,9 @@ enum zullifern_number {
 #define ZULLIFERN_TABLE_BOUND(text_length) ZULLIFERN_TABLE_SIZE((size_t)(text_length) / ZULLIFERN_MESSAGE_LEAST)
 
 /*
- * The same at the limits: room for the data of any text, 12,582,912 bytes, for any text that is written, 11,534,500 bytes (with
- * LF or CR it has at most 11,359,735), and for any table, 2,796,201 numbers (of 559,240 messages). Buffers of these sizes belong
- * on no stack. Each call writes the whole of what it is lent, so rather lend what your own input needs, by the above.
+ * The same at the limits: room for the data of any text, 12,582,912 bytes, for any text that is written, 11,534,500 bytes (at
+ * most 11,359,735 with LF or CR), and for any table, 2,796,201 numbers (of 559,240 messages). Buffers of these sizes belong on
+ * no stack. Each call writes the whole of what it is lent, so rather lend what your own input needs, by the above.
  */
 #define ZULLIFERN_READ_LIMIT ZULLIFERN_READ_BOUND(ZULLIFERN_TEXT_LIMIT)
 #define ZULLIFERN_WRITTEN_LIMIT ZULLIFERN_WRITTEN_SIZE(ZULLIFERN_LABEL_LIMIT, ZULLIFERN_DATA_LIMIT, ZULLIFERN_CRLF)
