@@ -1,13 +1,13 @@
 //! The cases that are the same in every run: samples, long texts, and small spaces of inputs in full.
 
 use crate::bits;
-use crate::paper::{BEGIN, END, HYPHENS, LABEL_LIMIT};
+use crate::lists::Joined;
+use crate::paper::{BEGIN, END, HYPHENS, LABEL_LIMIT, LINE, STYLES};
 use crate::random::Random;
-use crate::samples::{m_with, rows, spare_bits, split_pads, M};
-use crate::texts::{label_of, long_message, stretched, LONG_DATA, LONG_TEXT};
+use crate::samples::{lined_styles, m_with, rows, spare_bits, split_pads, spread, white_styles, M};
+use crate::texts::{ended, label_of, long_message, mixtures, stretched, LONG_DATA, LONG_TEXT, UNKNOWN_NUMBERS};
 use crate::trial::{Rooms, Trial};
 
-pub const UNKNOWN_GRAMMARS: [u32; 8] = [0, 4, 5, 255, 257, 0x0001_0002, 0x8000_0003, u32::MAX];
 const LINE_ENDS: [&[u8]; 4] = [b"", b"\n", b"\r", b"\r\n"];
 pub const SMALLEST_MESSAGE: &[u8] = b"-----BEGIN ----------END -----";
 const DATA_LENGTHS: [usize; 10] = [0, 1, 2, 3, 47, 48, 49, LONG_DATA - 1, LONG_DATA, LONG_DATA + 1];
@@ -27,12 +27,15 @@ const LINES: [&str; 9] = [
 
 pub fn run(trial: &mut Trial, random: &mut Random) {
     samples(trial);
+    line_end_samples(trial);
     bytes_everywhere(trial, random);
     mixed_line_ends(trial, random);
     small_bodies(trial, random);
     small_ends(trial, random);
     last_characters(trial, random);
     small_tails(trial, random);
+    small_white(trial, random);
+    small_lists(trial);
     small_labels(trial, random);
     label_lengths(trial, random);
     text_lengths(trial);
@@ -62,8 +65,16 @@ fn samples(trial: &mut Trial) {
 }
 
 fn unknown_grammars(trial: &mut Trial, text: &[u8]) {
-    for grammar in UNKNOWN_GRAMMARS {
+    for grammar in UNKNOWN_NUMBERS {
         trial.text_under(text, grammar, &mut Rooms::Edges);
+    }
+}
+
+/// The rows on line ends, alone, and without their last byte, which may be the LF of a CRLF and still stands behind the end.
+fn line_end_samples(trial: &mut Trial) {
+    for (text, _) in lined_styles().into_iter().chain(white_styles()) {
+        trial.text(&text, &mut Rooms::All);
+        trial.text(&text[..text.len() - 1], &mut Rooms::All);
     }
 }
 
@@ -92,18 +103,9 @@ fn words<'a>(letters: &'a [&'a [u8]], length: usize) -> Vec<Vec<u8>> {
 
 /// Each line end of a text as LF, CR, CRLF or none, in all mixtures.
 fn mixed_line_ends(trial: &mut Trial, random: &mut Random) {
-    for text in LINES.iter().flat_map(|lines| mixtures(lines)) {
+    for text in LINES.iter().flat_map(|lines| mixtures(lines.as_bytes(), &LINE_ENDS)) {
         trial.text(&text, &mut Rooms::Two(random));
     }
-}
-
-fn mixtures(lines: &str) -> Vec<Vec<u8>> {
-    let mut lines = lines.split('\n').map(str::as_bytes);
-    let first = lines.next().unwrap_or_default().to_vec();
-    lines.fold(vec![first], |texts, line| {
-        let with_line = |text: Vec<u8>| LINE_ENDS.map(|line_end| [text.as_slice(), line_end, line].concat());
-        texts.into_iter().flat_map(with_line).collect()
-    })
 }
 
 /// All that may stand behind the characters of a body, up to some length. Their spare bits are zero, or are not.
@@ -142,10 +144,45 @@ fn small_tails(trial: &mut Trial, random: &mut Random) {
     }
 }
 
+/// All short white, at each place where lax takes it, in a message that has no line ends beside it.
+fn small_white(trial: &mut Trial, random: &mut Random) {
+    for white in words(&[b"\r", b"\n", b"\x0b", b" "], 5) {
+        for text in spread(&white) {
+            trial.text(&text, &mut Rooms::Two(random));
+        }
+    }
+}
+
+/// All short lists of small items, each in each style: their texts joined are a bundle with that list.
+fn small_lists(trial: &mut Trial) {
+    let items: [(&[u8], &[u8]); 4] = [(b"", b"f"), (b"A", b"f"), (b"A", b"fo"), (b"A B", b"foo")];
+    let letters: Vec<[u8; 2]> = (0..items.len() as u8)
+        .flat_map(|item| STYLES.map(|style| [item, style as u8]))
+        .collect();
+    let letters: Vec<&[u8]> = letters.iter().map(<[u8; 2]>::as_slice).collect();
+    for list in words(&letters, 3) {
+        let mut joined = Joined::default();
+        for letter in list.chunks(2) {
+            let (label, data) = items[usize::from(letter[0])];
+            let written = trial.write(label, data, u32::from(letter[1]), &mut Rooms::Exact);
+            joined.add(label, data, &written.expect("the writer takes it"));
+        }
+        joined.index(trial);
+    }
+}
+
+/// Writes in each style, and in what is none.
+fn write_in_each(trial: &mut Trial, label: &[u8], data: &[u8], rooms: &mut Rooms) {
+    for style in STYLES.into_iter().chain(UNKNOWN_NUMBERS) {
+        trial.write(label, data, style, rooms);
+    }
+}
+
 /// All short labels, and what is none, to the writer and in both boundaries.
 fn small_labels(trial: &mut Trial, random: &mut Random) {
     for label in words(&[b"A", b"-", b" ", b"\x7f"], 4) {
-        trial.write(&label, b"f", &mut Rooms::All);
+        write_in_each(trial, &label, b"f", &mut Rooms::Edges);
+        trial.write(&label, b"f", random.pick(&STYLES), &mut Rooms::All);
         trial.text(&labelled(&label, &label), &mut Rooms::Two(random));
         trial.text(&labelled(&label, b"A"), &mut Rooms::Two(random));
     }
@@ -164,7 +201,7 @@ fn label_lengths(trial: &mut Trial, random: &mut Random) {
     {
         let label = label_of(opening, random);
         let other = label_of(closing, random);
-        trial.write(&label, b"f", &mut Rooms::Edges);
+        write_in_each(trial, &label, b"f", &mut Rooms::Edges);
         in_bundles(trial, &labelled(&label, &label));
         in_bundles(trial, &labelled(&label, &other));
     }
@@ -191,9 +228,13 @@ fn long_texts(length: usize) -> Vec<Vec<u8>> {
     let spaced = |text: &[u8]| [text, &vec![b' '; length - text.len()]].concat();
     let many = |text: &[u8]| text.repeat(length / text.len());
     let one = long_message(b"CERTIFICATE", length);
+    // With a byte more for each line it still fits.
+    let shorter = long_message(b"CERTIFICATE", length - length / LINE);
     let line_ends = vec![b'\n'; length - m_with(b"").len()];
     vec![
         stretched(&one, length),
+        spaced(&ended(&shorter, b"\r\n")),
+        spaced(&ended(&one, b"\r")),
         spaced(&one),
         spaced(&one[..one.len() - 1]),
         stretched(&many(M), length),
@@ -216,6 +257,6 @@ fn data_lengths(trial: &mut Trial, random: &mut Random) {
     for (label, length) in cases {
         let data = random.bytes(length);
         let small = length <= DATA_LENGTHS[6];
-        trial.write(&label, &data, &mut if small { Rooms::All } else { Rooms::Edges });
+        write_in_each(trial, &label, &data, &mut if small { Rooms::All } else { Rooms::Edges });
     }
 }

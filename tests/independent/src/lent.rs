@@ -65,7 +65,9 @@ const OLD_REPORT: Report = Report {
     size: 0xa5a5_a5a5_a5a5_a5a5,
     label_offset: u64::MAX - 1,
     label_length: 7,
-    reserved: [1, u64::MAX, 3],
+    reserved5: 1,
+    style: u64::MAX,
+    reserved7: 3,
 };
 
 impl LentReport {

@@ -2,7 +2,7 @@
 
 use crate::bits;
 use crate::fixed::SMALLEST_MESSAGE;
-use crate::paper::{number, Refusal, DATA_LIMIT, LABEL_LIMIT, LAX, STRICT, TEXT_LIMIT};
+use crate::paper::{number, style, Refusal, DATA_LIMIT, LABEL_LIMIT, LAX, STRICT, STYLES, TEXT_LIMIT};
 use crate::random::Random;
 use crate::texts::{label_of, long_message, stretched, FILLER};
 use crate::trial::{Judged, Rooms, Trial};
@@ -10,12 +10,13 @@ use crate::trial::{Judged, Rooms, Trial};
 /// Enough for any call, and far less than what the calls are lent here: one that had something of that size on its stack
 /// would crash.
 const STACK: usize = 64 * 1024;
-const UNKNOWN_GRAMMAR: u32 = 4;
+const UNKNOWN: u32 = 4;
 
-/// As many messages as a text has room for, the numbers of their table, and the bytes of the largest text that is written.
+/// As many messages as a text has room for, the numbers of their table, and the bytes of the largest text that is written in
+/// each style.
 const MOST_MESSAGES: usize = 559_240;
 const LARGEST_TABLE: usize = 2_796_201;
-const LARGEST_WRITTEN: usize = 11_359_735;
+const LARGEST_WRITTEN: [usize; 3] = [11_359_735, 11_534_500, 11_359_735];
 
 pub fn run(trial: &mut Trial, random: &mut Random) {
     trial.stack = Some(STACK);
@@ -40,7 +41,7 @@ fn one_message(trial: &mut Trial, random: &mut Random) {
     let judged = trial.text(&text, &mut Rooms::Exact);
     let too_long = |judged: &Judged| refused(judged, number::LONG_TEXT, 0);
     assert!(judged.iter().all(too_long), "one byte more is too long");
-    let judged = trial.text_under(&text, UNKNOWN_GRAMMAR, &mut Rooms::Exact);
+    let judged = trial.text_under(&text, UNKNOWN, &mut Rooms::Exact);
     assert!(refused(&judged, number::UNKNOWN_GRAMMAR, 0), "the grammar comes first");
 }
 
@@ -71,26 +72,29 @@ fn most_messages(trial: &mut Trial) {
     assert_eq!(bundle.err(), Some(Refusal { number, place }));
 }
 
-/// Labels and data of the limit and of one byte more; what is largest is read back, and restored from what was read.
+/// Labels and data of the limit and of one byte more, and an unknown style; what is largest is read back, and restored from
+/// what was read.
 fn most_data(trial: &mut Trial, random: &mut Random) {
     let label = label_of(LABEL_LIMIT, random);
     let long_label = label_of(LABEL_LIMIT + 1, random);
     let long_data = random.bytes(DATA_LIMIT + 1);
     let data = &long_data[..DATA_LIMIT];
-    for (label, data) in [
-        (&long_label, &data[..1]),
-        (&long_label, data),
-        (&long_label, &long_data),
-        (&label, &long_data),
+    for (label, data, style) in [
+        (&long_label, &data[..1], style::CRLF),
+        (&long_label, data, style::CR),
+        (&long_label, &long_data, UNKNOWN),
+        (&label, &long_data, style::LF),
+        (&label, &long_data, UNKNOWN),
+        (&label, data, UNKNOWN),
     ] {
-        assert!(trial.write(label, data, &mut Rooms::Tight).is_none());
+        assert!(trial.write(label, data, style, &mut Rooms::Tight).is_none());
     }
-    assert!(trial.write(&label, &data[..1], &mut Rooms::Tight).is_some());
-    let text = trial.write(&label, data, &mut Rooms::Tight).unwrap_or_default();
-    assert_eq!(text.len(), LARGEST_WRITTEN);
-    let back = trial.message_under(&text, STRICT, &mut Rooms::Exact);
-    assert!(
-        back.is_ok_and(|found| found.result == data),
-        "what is written has the data"
-    );
+    assert!(trial.write(&label, &data[..1], style::LF, &mut Rooms::Tight).is_some());
+    for (style, largest) in STYLES.into_iter().zip(LARGEST_WRITTEN) {
+        let text = trial.write(&label, data, style, &mut Rooms::Tight).unwrap_or_default();
+        assert_eq!(text.len(), largest);
+        let back = trial.message_under(&text, STRICT, &mut Rooms::Exact);
+        let back = back.map(|found| (found.result == data, found.style));
+        assert_eq!(back, Ok((true, style)), "what is written has the data and the style");
+    }
 }

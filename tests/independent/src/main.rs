@@ -2,13 +2,14 @@
 //!
 //! `cargo run --release -p independent` runs the fixed cases, those at the edges of leaps, and random ones of a fixed seed;
 //! with `-- SEED COUNT` it runs COUNT random rounds of that seed. It ends with status 1 on the first disagreement, or if the
-//! cases at leaps, or the random rounds of the default run, never came upon some number that the paper lists for them.
+//! cases at leaps, or the random rounds of the default run, never came upon some number or style that the paper lists for them.
 
 mod bits;
 mod fixed;
 mod leaps;
 mod lent;
 mod limits;
+mod lists;
 mod paper;
 #[cfg(test)]
 mod paper_tests;
@@ -50,18 +51,19 @@ fn main() {
     println!("at leaps: {}", families.join(", "));
     let rounds = format!("seed {seed}, {count} rounds");
     print_counts(&[&fixed, &at_leaps, &random], &rounds, started);
-    require_all_numbers("at leaps", &at_leaps, &NOT_AT_LEAPS);
+    require_all("at leaps", &at_leaps, &NOT_AT_LEAPS);
     if count >= COUNT {
-        require_all_numbers("in the random rounds", &random, &[]);
+        require_all("in the random rounds", &random, &[]);
     }
     println!("the library and the paper agree");
 }
 
-/// How often each call answered each number, and how many cases were fixed, at leaps and random.
+/// How often each call answered each number, how often each style was read, and how many cases were fixed, at leaps and random.
 fn print_counts(parts: &[&Tally; 3], rounds: &str, started: Instant) {
     let mut all = Tally::default();
     parts.iter().for_each(|part| all.add(part));
     CALLS.iter().for_each(|&call| println!("{}", all.line(call)));
+    println!("{}", all.styles_line());
     let [fixed, at_leaps, random] = parts.map(Tally::total);
     let (all, time) = (all.total(), started.elapsed().as_secs_f64());
     println!("{all} cases ({fixed} fixed, {at_leaps} at leaps, {random} random; {rounds}) in {time:.1} s");
@@ -73,13 +75,14 @@ fn parsed(argument: &str) -> u64 {
         .unwrap_or_else(|_| fail(&format!("{argument} is not a number")))
 }
 
-/// Cases that no longer come upon some number are noticed, unless they are not made for it.
-fn require_all_numbers(which: &str, tally: &Tally, others: &[u32]) {
+/// Cases that no longer come upon some number are noticed, unless they are not made for it; and so is a style.
+fn require_all(which: &str, tally: &Tally, others: &[u32]) {
     let missing = tally.missing().into_iter();
     let missing = missing.filter(|(_, _, number)| !others.contains(number));
-    let lines: Vec<String> = missing
-        .map(|(call, grammar, number)| format!("{call:?}, grammar {grammar}: number {number}"))
-        .collect();
+    let numbers = missing.map(|(call, asked, number)| format!("{call:?}, asked for {asked}: number {number}"));
+    let styles = tally.missing_styles().into_iter();
+    let styles = styles.map(|(grammar, style)| format!("Read, grammar {grammar}: style {style}"));
+    let lines: Vec<String> = numbers.chain(styles).collect();
     if !lines.is_empty() {
         fail(&format!("never occurred {which}:\n{}", lines.join("\n")));
     }

@@ -9,6 +9,17 @@ pub const STANDARD: u32 = 2;
 pub const STRICT: u32 = 3;
 pub const GRAMMARS: [u32; 3] = [LAX, STANDARD, STRICT];
 
+/// Change request K7: which line ends a message has, by number. These three are what the writer takes.
+pub const STYLES: [u32; 3] = [style::LF, style::CRLF, style::CR];
+
+pub mod style {
+    pub const NONE: u32 = 0;
+    pub const LF: u32 = 1;
+    pub const CRLF: u32 = 2;
+    pub const CR: u32 = 3;
+    pub const MIXED: u32 = 4;
+}
+
 pub const TEXT_LIMIT: usize = 16_777_216;
 pub const LABEL_LIMIT: usize = 64;
 pub const DATA_LIMIT: usize = 8_388_608;
@@ -45,6 +56,7 @@ pub mod number {
     pub const WRITER_NO_LABEL: u32 = 12;
     pub const WRITER_NO_DATA: u32 = 13;
     pub const WRITER_LONG_DATA: u32 = 14;
+    pub const WRITER_UNKNOWN_STYLE: u32 = 20;
 }
 
 /// A refusal by one of the checks but the last, which is the one of the room.
@@ -54,18 +66,23 @@ pub struct Refusal {
     pub place: usize,
 }
 
-/// What the checks before that of the room found: the result, and the label's offset and length if the call reports them.
+/// What the checks before that of the room found: the result, and the label's offset and length and the style of the line ends
+/// if the call reports them.
 #[derive(Clone, Debug, PartialEq, Eq)]
 pub struct Found<T> {
     pub result: Vec<T>,
     pub label: (usize, usize),
+    pub style: u32,
 }
 
 impl<T> Found<T> {
-    /// The result of a call that reports no label.
-    pub fn unlabelled(result: Vec<T>) -> Found<T> {
-        let label = (0, 0);
-        Found { result, label }
+    /// The result of a call that reports neither a label nor a style.
+    pub fn alone(result: Vec<T>) -> Found<T> {
+        Found {
+            result,
+            label: (0, 0),
+            style: style::NONE,
+        }
     }
 }
 
@@ -78,6 +95,7 @@ pub struct Answer<T> {
     pub place: usize,
     pub size: usize,
     pub label: (usize, usize),
+    pub style: u32,
     pub lent: Vec<T>,
 }
 
@@ -323,13 +341,14 @@ impl Paper {
         Ok(Found {
             result: message.data,
             label: message.label,
+            style: style_of(text),
         })
     }
 
     /// Checks 1 to 9 of a bundle; the result is its table.
     pub fn judge_index(&mut self, text: &[u8], grammar: u32) -> Judgement<u32> {
         let messages = self.messages(text, grammar)?;
-        Ok(Found::unlabelled(table(&messages)))
+        Ok(Found::alone(table(&messages)))
     }
 
     /// The messages of a bundle, judged from the left, each by 3 to 9 before the next.
@@ -362,8 +381,8 @@ impl Paper {
         grammar_refusal(course)
     }
 
-    /// Checks 11 to 14; the result is the written text.
-    pub fn judge_write(&mut self, label: &[u8], data: &[u8]) -> Judgement<u8> {
+    /// Checks 11 to 14, and 20; the result is the written text.
+    pub fn judge_write(&mut self, label: &[u8], data: &[u8], style: u32) -> Judgement<u8> {
         let refused = |number| Err(Refusal { number, place: 0 });
         if label.len() > LABEL_LIMIT {
             refused(number::WRITER_LONG_LABEL)
@@ -374,7 +393,10 @@ impl Paper {
         } else if data.len() > DATA_LIMIT {
             refused(number::WRITER_LONG_DATA)
         } else {
-            Ok(Found::unlabelled(written(label, data)))
+            match line_end_of(style) {
+                None => refused(number::WRITER_UNKNOWN_STYLE),
+                Some(line_end) => Ok(Found::alone(written(label, data, line_end))),
+            }
         }
     }
 
@@ -538,18 +560,62 @@ pub fn table(messages: &[Message]) -> Vec<u32> {
     table
 }
 
-/// Opening, LF, lines of 64 characters, the rest, closing, LF.
-fn written(label: &[u8], data: &[u8]) -> Vec<u8> {
-    let mut text = [BEGIN, label, HYPHENS, &[LF]].concat();
+/// The kind of line end that a symbol is, if it is one.
+fn kind_of(symbol: usize) -> Option<u32> {
+    const LF_SYMBOL: usize = LF as usize;
+    const CR_SYMBOL: usize = CR as usize;
+    match symbol {
+        LF_SYMBOL => Some(style::LF),
+        CRLF => Some(style::CRLF),
+        CR_SYMBOL => Some(style::CR),
+        _ => None,
+    }
+}
+
+/// The symbols of a text, from the left: CR followed by LF is always one.
+fn symbols_of(text: &[u8]) -> impl Iterator<Item = usize> + '_ {
+    let mut place = 0;
+    std::iter::from_fn(move || {
+        (place < text.len()).then(|| {
+            let (symbol, length) = symbol_at(text, place);
+            place += length;
+            symbol
+        })
+    })
+}
+
+/// Which line ends a text has, every one counted.
+fn style_of(text: &[u8]) -> u32 {
+    let kinds = symbols_of(text).filter_map(kind_of);
+    kinds.fold(style::NONE, |found, kind| match found {
+        style::NONE => kind,
+        _ if found == kind => kind,
+        _ => style::MIXED,
+    })
+}
+
+/// The line end of a style that the writer takes.
+pub fn line_end_of(style: u32) -> Option<&'static [u8]> {
+    match style {
+        style::LF => Some(&[LF]),
+        style::CRLF => Some(&[CR, LF]),
+        style::CR => Some(&[CR]),
+        _ => None,
+    }
+}
+
+/// Opening, lines of 64 characters, the rest, closing, each with its line end.
+fn written(label: &[u8], data: &[u8], line_end: &[u8]) -> Vec<u8> {
+    let mut text = [BEGIN, label, HYPHENS, line_end].concat();
     for line in bits::encode(data).chunks(LINE) {
         text.extend_from_slice(line);
-        text.push(LF);
+        text.extend_from_slice(line_end);
     }
-    text.extend([END, label, HYPHENS, &[LF]].concat());
+    text.extend([END, label, HYPHENS, line_end].concat());
     text
 }
 
-/// Check 10, and what is lent: the result and then zeros, or zeros only.
+/// Check 10, and what is lent: the result and then zeros, or zeros only. Only what is accepted has a style.
 pub fn answer<T: Copy + Default>(judgement: &Judgement<T>, room: usize) -> Answer<T> {
     let mut lent = vec![T::default(); room];
     match judgement {
@@ -558,6 +624,7 @@ pub fn answer<T: Copy + Default>(judgement: &Judgement<T>, room: usize) -> Answe
             place: refusal.place,
             size: 0,
             label: (0, 0),
+            style: 0,
             lent,
         },
         Ok(found) => {
@@ -572,6 +639,7 @@ pub fn answer<T: Copy + Default>(judgement: &Judgement<T>, room: usize) -> Answe
                 place: 0,
                 size,
                 label: found.label,
+                style: if fits { found.style } else { 0 },
                 lent,
             }
         }

@@ -1,11 +1,21 @@
-//! The second implementation against the paper's own samples: the table, its "Also" paragraph and the written sizes. What is
-//! accepted at a limit takes too long here, and is in `limits.rs`.
+//! The second implementation against the paper's own samples: the table, its "Also" paragraph, the written sizes, and samples of
+//! change requests. What is accepted at a limit takes too long here, and is in `limits.rs`.
 
-use crate::paper::{answer, label_part, Answer, Paper, Refusal, GRAMMARS, LAX, STANDARD, STRICT};
-use crate::samples::{m_with, rows, spare_bits, split_pads, M};
+use crate::paper::style::{CR, CRLF, LF, MIXED, NONE};
+use crate::paper::{answer, label_part, Answer, Paper, Refusal, GRAMMARS, LAX, STANDARD, STRICT, STYLES};
+use crate::samples::{lined_styles, m_with, rows, spare_bits, split_pads, white_styles, M};
 
 const ROOM: usize = 100;
 const TABLE_OF_TWO: [u32; 11] = [2, 0, 39, 11, 1, 1, 39, 39, 50, 1, 1];
+const UNKNOWN_STYLES: [u32; 4] = [0, 4, 257, u32::MAX];
+
+/// An accepted text whose line ends are LF.
+fn read_as(data: &[u8], label: (usize, usize)) -> Answer<u8> {
+    Answer {
+        style: LF,
+        ..accepted(data, label)
+    }
+}
 
 fn accepted<T: Copy + Default>(result: &[T], label: (usize, usize)) -> Answer<T> {
     let mut lent = result.to_vec();
@@ -15,6 +25,7 @@ fn accepted<T: Copy + Default>(result: &[T], label: (usize, usize)) -> Answer<T>
         place: 0,
         size: result.len(),
         label,
+        style: 0,
         lent,
     }
 }
@@ -25,6 +36,7 @@ fn refused<T: Copy + Default>(number: u32, place: usize) -> Answer<T> {
         place,
         size: 0,
         label: (0, 0),
+        style: 0,
         lent: vec![T::default(); ROOM],
     }
 }
@@ -38,7 +50,27 @@ fn index(text: &[u8], grammar: u32) -> Answer<u32> {
 }
 
 fn number_of_write(label: &[u8], data: &[u8]) -> u32 {
-    answer(&Paper::new().judge_write(label, data), usize::from(u16::MAX)).number
+    number_of_write_in(LF, label, data, usize::from(u16::MAX))
+}
+
+fn number_of_write_in(style: u32, label: &[u8], data: &[u8], room: usize) -> u32 {
+    answer(&Paper::new().judge_write(label, data, style), room).number
+}
+
+/// The style by what a text has. A bar stands for each CRLF, so that no part of one counts.
+fn style_by_search(text: &[u8]) -> u32 {
+    let text = String::from_utf8_lossy(text);
+    let rest = text.replace("\r\n", "|");
+    let kinds = [
+        (rest.contains('\n'), LF),
+        (text.contains("\r\n"), CRLF),
+        (rest.contains('\r'), CR),
+    ];
+    match kinds.into_iter().filter(|kind| kind.0).collect::<Vec<_>>()[..] {
+        [] => NONE,
+        [(_, only)] => only,
+        _ => MIXED,
+    }
 }
 
 /// A message in strict LF form.
@@ -61,7 +93,10 @@ fn every_row_of_the_table_and_of_the_requests() {
     for (text, samples) in rows().into_iter().chain(split_pads()).chain(spare_bits()) {
         let label_offset = 11 + text.iter().take_while(|&&byte| byte == b' ').count();
         let expected = samples.map(|sample| match sample {
-            Ok(data) => accepted(data, (label_offset, 1)),
+            Ok(data) => Answer {
+                style: style_by_search(&text),
+                ..accepted(data, (label_offset, 1))
+            },
             Err((number, place)) => refused(number, place),
         });
         assert_eq!(
@@ -83,7 +118,7 @@ fn a_first_line_of_65_characters() {
 #[test]
 fn labels_of_64_and_65_bytes() {
     for grammar in GRAMMARS {
-        assert_eq!(read(&message(&[b'L'; 64], b"Zg=="), grammar), accepted(b"f", (11, 64)));
+        assert_eq!(read(&message(&[b'L'; 64], b"Zg=="), grammar), read_as(b"f", (11, 64)));
         assert_eq!(read(&message(&[b'L'; 65], b"Zg=="), grammar), refused(6, 11));
         assert_eq!(index(&message(&[b'L'; 65], b"Zg=="), grammar), refused(6, 11));
     }
@@ -150,13 +185,14 @@ fn the_owner_of_white() {
     assert_eq!(index(&text, LAX), accepted(&table, (0, 0)));
 }
 
-/// Number 10 with what the result needs, and zeros in all of the room.
+/// Number 10 with what the result needs, no style, and zeros in all of the room.
 fn small<T: Clone + Default>(size: usize, label: (usize, usize), room: usize) -> Answer<T> {
     Answer {
         number: 10,
         place: 0,
         size,
         label,
+        style: 0,
         lent: vec![T::default(); room],
     }
 }
@@ -168,7 +204,8 @@ fn too_little_room() {
     assert_eq!(answer(&message, 1).lent, b"f");
     assert_eq!(answer(&message, 0), small(1, (11, 1), 0));
     assert_eq!(answer(&bundle, 10), small(11, (0, 0), 10));
-    assert_eq!(answer(&paper.judge_write(b"A", b"f"), 38), small(39, (0, 0), 38));
+    assert_eq!(answer(&paper.judge_write(b"A", b"f", LF), 38), small(39, (0, 0), 38));
+    assert_eq!(answer(&paper.judge_write(b"A", b"f", CRLF), 41), small(42, (0, 0), 41));
 }
 
 #[test]
@@ -209,8 +246,8 @@ fn the_label_call() {
 #[test]
 fn the_written_text_and_its_size() {
     let mut paper = Paper::new();
-    assert_eq!(paper.judge_write(b"A", b"f").unwrap().result, M);
-    for (label, data) in [
+    assert_eq!(paper.judge_write(b"A", b"f", LF).unwrap().result, M);
+    let lengths = [
         (0, 1),
         (1, 47),
         (2, 48),
@@ -219,12 +256,53 @@ fn the_written_text_and_its_size() {
         (10, 97),
         (64, 32_767),
         (64, 32_768),
-    ] {
-        let text = paper.judge_write(&vec![b'L'; label], &vec![0x5a; data]).unwrap().result;
-        assert_eq!(text.len(), 32 + 2 * label + 4 * data.div_ceil(3) + data.div_ceil(48));
+    ];
+    for (style, (label, length)) in STYLES
+        .into_iter()
+        .flat_map(|style| lengths.map(|lengths| (style, lengths)))
+    {
+        let (label, data) = (vec![b'L'; label], vec![0x5a; length]);
+        let text = paper.judge_write(&label, &data, style).unwrap().result;
+        let size = 32 + 2 * label.len() + 4 * length.div_ceil(3) + length.div_ceil(48);
+        let more = if style == CRLF { length.div_ceil(48) + 2 } else { 0 };
+        assert_eq!(text.len(), size + more);
         let back = paper.judge_read(&text, STRICT).unwrap();
-        assert_eq!((back.result, back.label), (vec![0x5a; data], (11, label)));
+        assert_eq!((back.result, back.label, back.style), (data, (11, label.len()), style));
     }
+}
+
+#[test]
+fn the_written_text_in_each_style() {
+    let mut paper = Paper::new();
+    for (style, line_end) in STYLES.into_iter().zip(["\n", "\r\n", "\r"]) {
+        let lines = ["-----BEGIN A-----", &"Wlpa".repeat(16), "Wg==", "-----END A-----", ""];
+        let text = paper.judge_write(b"A", &[0x5a; 49], style).unwrap().result;
+        assert_eq!(text, lines.join(line_end).into_bytes());
+        let text = paper.judge_write(b"A", &[0x5a; 48], style).unwrap().result;
+        assert_eq!(text, [&lines[..2], &lines[3..]].concat().join(line_end).into_bytes());
+    }
+}
+
+#[test]
+fn every_row_on_line_ends() {
+    let rows: Vec<_> = lined_styles().into_iter().chain(white_styles()).collect();
+    assert_eq!(rows.len(), 10 + 16 * 7);
+    let mut paper = Paper::new();
+    for (text, styles) in rows {
+        let shown = text.escape_ascii();
+        let found = GRAMMARS.map(|grammar| paper.judge_read(&text, grammar).ok().map(|found| found.style));
+        assert_eq!(found, styles, "{shown}");
+        assert_eq!(styles[0], Some(style_by_search(&text)), "{shown}");
+    }
+}
+
+#[test]
+fn no_style_but_of_an_accepted_message() {
+    assert_eq!(read(M, STRICT), read_as(b"f", (11, 1)));
+    assert_eq!(read(M, 4).style, 0);
+    assert_eq!(read(&m_with(b"\nZg=\n"), LAX).style, 0);
+    assert_eq!(answer(&Paper::new().judge_read(M, STRICT), 0).style, 0);
+    assert_eq!(index(M, STRICT).style, 0);
 }
 
 #[test]
@@ -232,8 +310,22 @@ fn the_writers_order_of_checks() {
     assert_eq!(number_of_write(&[b'-'; 65], b""), 11);
     assert_eq!(number_of_write(b"-", b""), 12);
     assert_eq!(number_of_write(b"-", &vec![0; 8_388_609]), 12);
-    let refusal = Paper::new().judge_write(b"A", b"").unwrap_err();
+    let refusal = Paper::new().judge_write(b"A", b"", LF).unwrap_err();
     assert_eq!(refusal, Refusal { number: 13, place: 0 });
+}
+
+#[test]
+fn unknown_styles_come_behind_the_data_and_before_the_room() {
+    for style in UNKNOWN_STYLES {
+        let number = |label: &[u8], data: &[u8], room| number_of_write_in(style, label, data, room);
+        assert_eq!(number(&[b'L'; 65], b"f", ROOM), 11);
+        assert_eq!(number(b"-", b"f", ROOM), 12);
+        assert_eq!(number(b"A", b"", ROOM), 13);
+        assert_eq!(number(b"A", &vec![0; 8_388_609], 0), 14);
+        assert_eq!(number(b"A", b"f", 0), 20);
+        let judgement = Paper::new().judge_write(b"A", b"f", style);
+        assert_eq!(answer(&judgement, ROOM), refused(20, 0));
+    }
 }
 
 #[test]

@@ -1,17 +1,18 @@
 //! The random rounds: a text for the readers, or a list of labels and data for the writer.
 
-use crate::fixed::UNKNOWN_GRAMMARS;
 use crate::leaps;
-use crate::paper::{table, Found, Message, BEGIN, DATA_LIMIT, GRAMMARS, TEXT_LIMIT};
+use crate::lists::Joined;
+use crate::paper::{DATA_LIMIT, GRAMMARS, TEXT_LIMIT};
 use crate::random::Random;
 use crate::samples::M;
-use crate::texts::{self, LONG_DATA, LONG_TEXT};
+use crate::texts::{self, LINE_ENDS, LONG_DATA, LONG_TEXT};
 use crate::trial::{Rooms, Trial};
 
 /// One text in this many, and the data of one item in this many, is long, which takes time.
 const LONG: usize = 500;
 /// One in this many is over its limit: refused at once, but it takes memory.
-const OVER_LIMIT: usize = 1_000;
+const TEXT_OVER_LIMIT: usize = 1_000;
+const DATA_OVER_LIMIT: usize = 200;
 /// By how much it is over.
 const OVER: usize = 3;
 /// One round in this many tries all rooms, if the text is not longer than this.
@@ -42,19 +43,13 @@ fn text(trial: &mut Trial, random: &mut Random) {
         trial.text(&text, &mut Rooms::Two(random));
     }
     if random.one_in(ALL_ROOMS) {
-        let number = random.number() as u32;
-        let unknown = if (1..=3).contains(&number) { 0 } else { number };
-        let grammar = if random.one_in(2) {
-            unknown
-        } else {
-            random.pick(&UNKNOWN_GRAMMARS)
-        };
+        let grammar = texts::unknown_number(random);
         trial.text_under(&text, grammar, &mut Rooms::Two(random));
     }
 }
 
 fn random_text(random: &mut Random) -> Vec<u8> {
-    if random.one_in(OVER_LIMIT) {
+    if random.one_in(TEXT_OVER_LIMIT) {
         return text_over_limit(random);
     }
     if random.one_in(LONG) {
@@ -88,6 +83,11 @@ fn long_text(random: &mut Random) -> Vec<u8> {
     };
     let text = unit.repeat(length / unit.len());
     let text = if random.one_in(2) {
+        texts::ended(&text, random.pick(&LINE_ENDS))
+    } else {
+        text
+    };
+    let text = if random.one_in(2) {
         texts::damaged(&text, random)
     } else {
         text
@@ -107,49 +107,34 @@ fn random_bytes(random: &mut Random) -> Vec<u8> {
     }
 }
 
-/// Writes each item of a list; if the writer takes all of them, their texts joined are a bundle with that list.
+/// Writes each item of a list, each in its own style; if the writer takes all of them, their texts joined are a bundle with
+/// that list.
 fn written_list(trial: &mut Trial, random: &mut Random) {
     let count = random.below(4);
-    let mut joined = Vec::new();
-    let mut messages = Vec::new();
+    let mut joined = Joined::default();
     let mut all_taken = true;
     for _ in 0..count {
-        let (label, data) = item(random);
-        match trial.write(&label, &data, &mut Rooms::Two(random)) {
-            Some(text) => add_message(&label, data, &text, &mut joined, &mut messages),
+        let (label, data, style) = (texts::near_label(random), data(random), texts::style(random));
+        match trial.write(&label, &data, style, &mut Rooms::Two(random)) {
+            Some(text) => joined.add(&label, &data, &text),
             None => all_taken = false,
         }
     }
     if all_taken {
-        let list = Ok(Found::unlabelled(table(&messages)));
-        GRAMMARS
-            .iter()
-            .for_each(|&grammar| trial.index(&joined, grammar, 1 + 5 * messages.len(), &list));
+        joined.index(trial);
     }
 }
 
-fn add_message(label: &[u8], data: Vec<u8>, text: &[u8], joined: &mut Vec<u8>, messages: &mut Vec<Message>) {
-    let start = joined.len();
-    joined.extend_from_slice(text);
-    messages.push(Message {
-        start,
-        length: text.len(),
-        label: (start + BEGIN.len(), label.len()),
-        data,
-    });
-}
-
-/// A label or nearly one, and data.
-fn item(random: &mut Random) -> (Vec<u8>, Vec<u8>) {
+/// Mostly of some lines. Over the limit it is refused unseen, so any byte will do.
+fn data(random: &mut Random) -> Vec<u8> {
+    if random.one_in(DATA_OVER_LIMIT) {
+        return vec![random.byte(); DATA_LIMIT + random.between(1, OVER)];
+    }
     let length = data_length(random);
-    (texts::near_label(random), random.bytes(length))
+    random.bytes(length)
 }
 
-/// Mostly of some lines.
 fn data_length(random: &mut Random) -> usize {
-    if random.one_in(OVER_LIMIT) {
-        return DATA_LIMIT + random.between(1, OVER);
-    }
     if random.one_in(LONG) {
         return random.between(LONG_DATA - 2, LONG_DATA + 1);
     }

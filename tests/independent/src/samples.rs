@@ -1,4 +1,6 @@
-//! The paper's "Counter samples": M and the rows of the table, and rows of change requests K9 and K8.
+//! The paper's "Counter samples": M and the rows of the table, and rows of change requests K9, K8 and K7.
+
+use crate::paper::style::{CR, CRLF, LF, MIXED, NONE};
 
 /// The M of the paper.
 pub const M: &[u8] = b"-----BEGIN A-----\nZg==\n-----END A-----\n";
@@ -91,4 +93,73 @@ pub fn spare_bits() -> Vec<(Vec<u8>, [Sample; 3])> {
         (b"\nZm9v\n", [foo; 3]),
         (b"\nZh=\n", [Err((8, 22)), Err((8, 22)), no(21)]),
     ])
+}
+
+/// A text, and its style under lax, standard and strict, where they take it.
+pub type Styled = (Vec<u8>, [Option<u32>; 3]);
+
+/// M with these line ends.
+fn m_ending(ends: [&[u8]; 3]) -> Vec<u8> {
+    let [opening, data, closing] = ends;
+    let parts = [
+        b"-----BEGIN A-----",
+        opening,
+        b"Zg==",
+        data,
+        b"-----END A-----",
+        closing,
+    ];
+    parts.concat()
+}
+
+/// M in each style and mixed, after change request K7. In the last rows a CR or nothing ends the text.
+pub fn lined_styles() -> Vec<Styled> {
+    let rows: [([&[u8]; 3], u32); 10] = [
+        ([b"\n", b"\n", b"\n"], LF),
+        ([b"\r\n", b"\r\n", b"\r\n"], CRLF),
+        ([b"\r", b"\r", b"\r"], CR),
+        ([b"\r", b"\n", b"\n"], MIXED),
+        ([b"\n", b"\r\n", b"\n"], MIXED),
+        ([b"\r\n", b"\r\n", b"\n"], MIXED),
+        ([b"\r", b"\r", b"\r\n"], MIXED),
+        ([b"\r\n", b"\r\n", b"\r"], MIXED),
+        ([b"\n", b"\n", b""], LF),
+        ([b"\r\n", b"\r\n", b""], CRLF),
+    ];
+    let taken = |ends: [&[u8]; 3], style| [Some(style), Some(style), (!ends[2].is_empty()).then_some(style)];
+    rows.map(|(ends, style)| (m_ending(ends), taken(ends, style))).to_vec()
+}
+
+/// White at each place where lax takes it, in a message that has no line ends beside it.
+pub fn white_styles() -> Vec<Styled> {
+    let rows: [(&[u8], u32); 16] = [
+        (b"", NONE),
+        (b" \t\x0b\x0c", NONE),
+        (b"\n", LF),
+        (b"\x0b\n\x0c\n", LF),
+        (b"\r\n", CRLF),
+        (b"\r\n\r\n", CRLF),
+        (b"\r\n \r\n", CRLF),
+        (b"\r", CR),
+        (b"\r\r", CR),
+        (b"\r\x0b", CR),
+        (b"\r \n", MIXED),
+        (b"\r\x0c\n", MIXED),
+        (b"\n\r", MIXED),
+        (b"\r\r\n", MIXED),
+        (b"\r\n\r", MIXED),
+        (b"\r\n\n", MIXED),
+    ];
+    let texts = |(white, style)| spread(white).map(|text| (text, [Some(style), None, None]));
+    rows.into_iter().flat_map(texts).collect()
+}
+
+/// M without line ends, and with this before the opening, behind it, between characters, around the pads, before the closing
+/// or behind it.
+pub fn spread(white: &[u8]) -> [Vec<u8>; 7] {
+    let parts: [&[u8]; 7] = [b"", b"-----BEGIN A-----", b"Z", b"g", b"=", b"=", b"-----END A-----"];
+    std::array::from_fn(|place| {
+        let (before, behind) = parts.split_at(place + 1);
+        [&before.concat(), white, &behind.concat()].concat()
+    })
 }

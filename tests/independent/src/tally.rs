@@ -1,6 +1,6 @@
-//! How many cases there were of each call, by grammar and number.
+//! How many cases there were of each call, by what was asked for and by number.
 
-use crate::paper::{number::*, LAX, STANDARD, STRICT};
+use crate::paper::{number::*, style, LAX, STRICT};
 
 #[derive(Clone, Copy, Debug, PartialEq, Eq)]
 pub enum Call {
@@ -11,10 +11,12 @@ pub enum Call {
 }
 
 pub const CALLS: [Call; 4] = [Call::Read, Call::Label, Call::Index, Call::Write];
-const NUMBERS: usize = WRITER_LONG_DATA as usize + 1;
-/// The slot of all grammar numbers but 1, 2 and 3, and of the writer, which has none.
-pub const NO_GRAMMAR: u32 = 0;
+const NUMBERS: usize = WRITER_UNKNOWN_STYLE as usize + 1;
+/// What is asked for are grammars, or of the writer styles. Both have the numbers 1, 2 and 3; all others have this slot.
+pub const UNKNOWN: u32 = 0;
 const SLOTS: usize = 4;
+/// How many styles a message may be found in.
+const FOUND: usize = style::MIXED as usize + 1;
 
 const BY_READERS: [u32; 10] = [
     ACCEPTED,
@@ -28,37 +30,46 @@ const BY_READERS: [u32; 10] = [
     SPARE_BITS,
     SMALL_OUTPUT,
 ];
-const BY_WRITER: [u32; 6] = [
+const BY_WRITER: [u32; 7] = [
     ACCEPTED,
     SMALL_OUTPUT,
     WRITER_LONG_LABEL,
     WRITER_NO_LABEL,
     WRITER_NO_DATA,
     WRITER_LONG_DATA,
+    WRITER_UNKNOWN_STYLE,
 ];
 
 #[derive(Default, Clone)]
-pub struct Tally([[[u64; NUMBERS]; SLOTS]; CALLS.len()]);
+pub struct Tally {
+    numbers: [[[u64; NUMBERS]; SLOTS]; CALLS.len()],
+    /// Of the messages that were read, by grammar and style.
+    styles: [[u64; FOUND]; SLOTS],
+}
 
-fn slot(grammar: u32) -> usize {
-    match grammar {
-        LAX | STANDARD | STRICT => grammar as usize,
-        _ => NO_GRAMMAR as usize,
+fn slot(asked: u32) -> usize {
+    match asked as usize {
+        asked if asked < SLOTS => asked,
+        _ => UNKNOWN as usize,
     }
 }
 
 impl Tally {
-    pub fn count(&mut self, call: Call, grammar: u32, number: u32) {
-        self.0[call as usize][slot(grammar)][number as usize] += 1;
+    pub fn count(&mut self, call: Call, asked: u32, number: u32, style: u32) {
+        let slot = slot(asked);
+        self.numbers[call as usize][slot][number as usize] += 1;
+        if call == Call::Read && number == ACCEPTED {
+            self.styles[slot][style as usize] += 1;
+        }
     }
 
     pub fn of_call(&self, call: Call) -> u64 {
-        self.0[call as usize].iter().flatten().sum()
+        self.numbers[call as usize].iter().flatten().sum()
     }
 
-    /// How many cases of a call and grammar were accepted, and how many were refused whatever the room.
-    pub fn accepted_and_refused(&self, call: Call, grammar: u32) -> (u64, u64) {
-        let numbers = &self.0[call as usize][slot(grammar)];
+    /// How many cases of a call and of what was asked for were accepted, and how many were refused whatever the room.
+    pub fn accepted_and_refused(&self, call: Call, asked: u32) -> (u64, u64) {
+        let numbers = &self.numbers[call as usize][slot(asked)];
         let [accepted, small] = [ACCEPTED, SMALL_OUTPUT].map(|number| numbers[number as usize]);
         (accepted, numbers.iter().sum::<u64>() - accepted - small)
     }
@@ -68,19 +79,20 @@ impl Tally {
     }
 
     pub fn add(&mut self, other: &Tally) {
-        let theirs = other.0.iter().flatten().flatten();
-        self.0
-            .iter_mut()
-            .flatten()
-            .flatten()
-            .zip(theirs)
-            .for_each(|(ours, theirs)| *ours += theirs);
+        let ours = self.numbers.iter_mut().flatten().flatten();
+        let ours = ours.chain(self.styles.iter_mut().flatten());
+        let theirs = other.numbers.iter().flatten().flatten();
+        let theirs = theirs.chain(other.styles.iter().flatten());
+        ours.zip(theirs).for_each(|(ours, theirs)| *ours += theirs);
     }
 
     /// One line for a call: how often each number occurred. For `label`, which has no number, it is the one for which the
     /// reader's checks 1 to 9 leave its part empty, or 0.
     pub fn line(&self, call: Call) -> String {
-        let by_number = |number: usize| self.0[call as usize].iter().map(move |slot| slot[number]).sum::<u64>();
+        let by_number = |number: usize| {
+            let slots = self.numbers[call as usize].iter();
+            slots.map(move |slot| slot[number]).sum::<u64>()
+        };
         let counts = (0..NUMBERS)
             .map(|number| (number, by_number(number)))
             .filter(|&(_, count)| count > 0);
@@ -93,30 +105,51 @@ impl Tally {
         )
     }
 
-    /// The numbers that the paper lists for a call and grammar but that never occurred.
+    /// One line for the styles of the messages that were read.
+    pub fn styles_line(&self) -> String {
+        let of_style = |style: usize| self.styles.iter().map(|slot| slot[style]).sum::<u64>();
+        let counts: Vec<String> = (0..FOUND)
+            .map(|style| format!("{style}: {}", of_style(style)))
+            .collect();
+        format!("styles that were read  {}", counts.join(", "))
+    }
+
+    /// The numbers that the paper lists for a call and what is asked for but that never occurred.
     pub fn missing(&self) -> Vec<(Call, u32, u32)> {
         let listed = CALLS
             .iter()
-            .flat_map(|&call| (0..SLOTS as u32).map(move |grammar| (call, grammar)));
-        let listed = listed.flat_map(|(call, grammar)| listed_for(call, grammar).map(move |n| (call, grammar, n)));
+            .flat_map(|&call| (0..SLOTS as u32).map(move |asked| (call, asked)));
+        let listed = listed.flat_map(|(call, asked)| listed_for(call, asked).map(move |n| (call, asked, n)));
         listed
-            .filter(|&(call, grammar, number)| self.0[call as usize][slot(grammar)][number as usize] == 0)
+            .filter(|&(call, asked, number)| self.numbers[call as usize][slot(asked)][number as usize] == 0)
+            .collect()
+    }
+
+    /// The grammars and styles that may be found under them but never were.
+    pub fn missing_styles(&self) -> Vec<(u32, u32)> {
+        let listed = (LAX..=STRICT).flat_map(|grammar| (0..FOUND as u32).map(move |style| (grammar, style)));
+        listed
+            .filter(|&(grammar, style)| grammar == LAX || style != style::NONE)
+            .filter(|&(grammar, style)| self.styles[slot(grammar)][style as usize] == 0)
             .collect()
     }
 }
 
-/// Strict bodies fit by their grammar, lax drops spare bits, and the label call has no room.
-fn listed_for(call: Call, grammar: u32) -> impl Iterator<Item = u32> {
-    let numbers: &[u32] = match (call, grammar) {
-        (Call::Write, 0) => &BY_WRITER,
-        (Call::Write, _) => &[],
-        (_, 0) => &[UNKNOWN_GRAMMAR],
+/// Strict bodies fit by their grammar, lax drops spare bits, and the label call has no room. The writer takes no unknown style,
+/// and refuses no other for it.
+fn listed_for(call: Call, asked: u32) -> impl Iterator<Item = u32> {
+    let numbers: &[u32] = match (call, asked) {
+        (Call::Write, _) => &BY_WRITER,
+        (_, UNKNOWN) => &[UNKNOWN_GRAMMAR],
         _ => &BY_READERS,
     };
+    let unknown_style = call == Call::Write && asked == UNKNOWN;
     numbers.iter().copied().filter(move |&number| match number {
-        COUNTS_DO_NOT_FIT => grammar != STRICT,
-        SPARE_BITS => grammar != LAX,
-        SMALL_OUTPUT => call != Call::Label,
+        COUNTS_DO_NOT_FIT => asked != STRICT,
+        SPARE_BITS => asked != LAX,
+        ACCEPTED => !unknown_style,
+        SMALL_OUTPUT => call != Call::Label && !unknown_style,
+        WRITER_UNKNOWN_STYLE => unknown_style,
         _ => true,
     })
 }

@@ -1,7 +1,7 @@
 //! Makers of random inputs: valid texts of each grammar, odd ones, damaged ones, and soups.
 
 use crate::bits;
-use crate::paper::{BEGIN, END, GRAMMARS, HYPHENS, LABEL_LIMIT, LAX, LINE, STANDARD};
+use crate::paper::{BEGIN, END, GRAMMARS, HYPHENS, LABEL_LIMIT, LAX, LINE, STANDARD, STYLES};
 use crate::random::Random;
 
 /// A length around which many texts are tried, as long as a program's own buffer may be. At the limit each try takes long.
@@ -10,6 +10,10 @@ pub const LONG_TEXT: usize = 65_536;
 pub const LONG_DATA: usize = 32_768;
 /// The character of which long messages are made.
 pub const FILLER: u8 = b'Q';
+/// Numbers of no grammar, and of no style that the writer takes.
+pub const UNKNOWN_NUMBERS: [u32; 8] = [0, 4, 5, 255, 257, 0x0001_0002, 0x8000_0003, u32::MAX];
+/// One style in this many is such a number.
+const UNKNOWN_STYLE: usize = 5;
 
 const LABELS: [&[u8]; 8] = [
     b"A",
@@ -23,8 +27,9 @@ const LABELS: [&[u8]; 8] = [
 ];
 /// Bytes that mean something somewhere, or stand just beside one that does.
 const TELLING: &[u8] = b"-- \t\n\r\x0b\x0c==AZaz09+/@[`{.:,!~BbEe\x00\x08\x0e\x1f\x7f\x80\xff";
-const LINE_ENDS: [&[u8]; 3] = [b"\n", b"\r", b"\r\n"];
-const WHITE: [&[u8]; 7] = [b" ", b"\t", b"\n", b"\r", b"\r\n", b"\x0b", b"\x0c"];
+pub const LINE_ENDS: [&[u8]; 3] = [b"\n", b"\r", b"\r\n"];
+/// White that is no line end.
+const OTHER_WHITE: [&[u8]; 4] = [b" ", b"\t", b"\x0b", b"\x0c"];
 const PIECES: [&[u8]; 34] = [
     b"-----BEGIN ",
     b"-----END ",
@@ -75,6 +80,48 @@ impl LineEnds {
             Some(line_end) => line_end,
             None => r.pick(&LINE_ENDS),
         }
+    }
+}
+
+/// The white of one lax message: with line ends of one kind, mixed, or none.
+struct White(Option<LineEnds>);
+
+impl White {
+    fn new(r: &mut Random) -> White {
+        let with_ends = !r.one_in(6);
+        White(with_ends.then(|| LineEnds::new(r)))
+    }
+
+    fn next(&self, r: &mut Random) -> &'static [u8] {
+        match &self.0 {
+            Some(ends) if r.below(7) < 3 => ends.next(r),
+            _ => r.pick(&OTHER_WHITE),
+        }
+    }
+
+    /// None of it, or some.
+    fn run(&self, r: &mut Random) -> Vec<u8> {
+        let count = if r.one_in(2) { r.between(1, 3) } else { 0 };
+        (0..count).flat_map(|_| self.next(r)).copied().collect()
+    }
+}
+
+/// A number that no grammar and no style has.
+pub fn unknown_number(r: &mut Random) -> u32 {
+    let number = r.number() as u32;
+    if r.one_in(2) || (1..=3).contains(&number) {
+        r.pick(&UNKNOWN_NUMBERS)
+    } else {
+        number
+    }
+}
+
+/// The number of a style, now and then an unknown one.
+pub fn style(r: &mut Random) -> u32 {
+    if r.one_in(UNKNOWN_STYLE) {
+        unknown_number(r)
+    } else {
+        r.pick(&STYLES)
     }
 }
 
@@ -230,27 +277,23 @@ fn standard_lines(content: &Content, r: &mut Random) -> Vec<Vec<u8>> {
 
 fn lax(content: &Content, r: &mut Random) -> Vec<u8> {
     let sparse = r.pick(&[2, 10, LINE, 1000]);
+    let white = White::new(r);
     let mut body = content.characters.clone();
     body.resize(body.len() + content.pads, bits::PAD);
-    let mut text = [&white(r), BEGIN, &content.opening_label, HYPHENS, &white(r)].concat();
+    let mut text = [&white.run(r), BEGIN, &content.opening_label, HYPHENS, &white.run(r)].concat();
     for byte in body {
         text.push(byte);
         if r.one_in(sparse) {
-            text.extend(white(r));
+            text.extend(white.run(r));
         }
     }
-    text.extend([&white(r), END, &content.closing_label, HYPHENS, &white(r)].concat());
+    text.extend([&white.run(r), END, &content.closing_label, HYPHENS, &white.run(r)].concat());
     text
 }
 
 fn blanks(r: &mut Random) -> Vec<u8> {
     let count = if r.one_in(5) { r.between(1, 3) } else { 0 };
     (0..count).map(|_| r.pick(b" \t")).collect()
-}
-
-fn white(r: &mut Random) -> Vec<u8> {
-    let count = if r.one_in(2) { r.between(1, 3) } else { 0 };
-    (0..count).flat_map(|_| r.pick(&WHITE)).copied().collect()
 }
 
 /// A text after one to three edits.
@@ -326,6 +369,25 @@ pub fn long_message(label: &[u8], length: usize) -> Vec<u8> {
     [&ends[..4].concat(), line.repeat(lines).as_slice(), &ends[4..].concat()].concat()
 }
 
+/// A text with LF line ends with others in their place, in all mixtures.
+pub fn mixtures(text: &[u8], line_ends: &[&[u8]]) -> Vec<Vec<u8>> {
+    let mut lines = text.split(|&byte| byte == b'\n');
+    let first = lines.next().unwrap_or_default().to_vec();
+    lines.fold(vec![first], |texts, line| {
+        let with_line = |text: &Vec<u8>| -> Vec<Vec<u8>> {
+            let ended = line_ends.iter().map(|line_end| [text, *line_end, line].concat());
+            ended.collect()
+        };
+        texts.iter().flat_map(with_line).collect()
+    })
+}
+
+/// The same text with this line end in place of each LF.
+pub fn ended(text: &[u8], line_end: &[u8]) -> Vec<u8> {
+    let lines: Vec<&[u8]> = text.split(|&byte| byte == b'\n').collect();
+    lines.join(line_end)
+}
+
 /// The same text made longer, up to this length, by the line ends: the first of them become CRLF.
 pub fn stretched(text: &[u8], length: usize) -> Vec<u8> {
     let mut more = length - text.len();
@@ -338,4 +400,16 @@ pub fn stretched(text: &[u8], length: usize) -> Vec<u8> {
         result.push(byte);
     }
     result
+}
+
+#[cfg(test)]
+mod tests {
+    use super::*;
+
+    #[test]
+    fn line_ends_in_all_mixtures() {
+        let texts = mixtures(b"a\nb\n", &[b"", b"\r\n"]);
+        assert_eq!(texts, [b"ab".as_slice(), b"ab\r\n", b"a\r\nb", b"a\r\nb\r\n"]);
+        assert_eq!(ended(b"a\nb\n", b"\r"), b"a\rb\r");
+    }
 }

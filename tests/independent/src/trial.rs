@@ -1,7 +1,8 @@
 //! Runs the library's calls, each on outputs that hold old values, and compares all that they answer with the paper.
 
 use crate::lent::{Cell, Lent, LentReport};
-use crate::paper::{answer, label_part, Answer, Found, Judgement, Paper, BEGIN, DATA_LIMIT, GRAMMARS, STRICT};
+use crate::paper::{answer, label_part, number, style, Answer, Found, Judgement, Paper};
+use crate::paper::{BEGIN, DATA_LIMIT, GRAMMARS, STRICT, STYLES};
 use crate::random::Random;
 use crate::tally::{Call, Tally};
 use crate::texts::LONG_TEXT;
@@ -65,19 +66,19 @@ impl Rooms<'_> {
 /// What was put into a call, for the message on a disagreement.
 struct Input<'a> {
     call: Call,
-    grammar: u32,
+    /// The number of the grammar, or of the style in which to write.
+    asked: u32,
     text: &'a [u8],
     data: Option<&'a [u8]>,
 }
 
 impl<'a> Input<'a> {
     fn text(call: Call, text: &'a [u8], grammar: u32) -> Input<'a> {
-        let data = None;
         Input {
             call,
-            grammar,
+            asked: grammar,
             text,
-            data,
+            data: None,
         }
     }
 }
@@ -151,32 +152,46 @@ impl Trial {
         bundle
     }
 
-    /// Writing what was read restores an accepted strict LF text whose data is within the limit.
+    /// Writing what was read, in the style read, restores an accepted strict text of one style whose data is within the limit.
     fn restore(&mut self, text: &[u8], grammar: u32, message: &Judgement<u8>) {
         let Ok(found) = message else { return };
         let (data, (offset, length)) = (&found.result, found.label);
-        if grammar == STRICT && !text.contains(&b'\r') && data.len() <= DATA_LIMIT {
-            let restored = Ok(Found::unlabelled(text.to_vec()));
-            self.write_once(&text[offset..offset + length], data, text.len(), &restored);
+        if grammar == STRICT && STYLES.contains(&found.style) && data.len() <= DATA_LIMIT {
+            let restored = Ok(Found::alone(text.to_vec()));
+            let label = &text[offset..offset + length];
+            self.write_once(label, data, found.style, text.len(), &restored);
         }
     }
 
     /// Writes with the rooms given, reads back what was written, and hands that over if there is any.
-    pub fn write(&mut self, label: &[u8], data: &[u8], rooms: &mut Rooms) -> Option<Vec<u8>> {
-        let judgement = self.paper.judge_write(label, data);
-        for room in rooms.of(&judgement, label.len() + data.len()) {
-            self.write_once(label, data, room, &judgement);
+    pub fn write(&mut self, label: &[u8], data: &[u8], style: u32, rooms: &mut Rooms) -> Option<Vec<u8>> {
+        let judgement = self.paper.judge_write(label, data, style);
+        let size_if_refused = self.size_if_refused(label, data, &judgement);
+        for room in rooms.of(&judgement, size_if_refused) {
+            self.write_once(label, data, style, room, &judgement);
         }
         let text = judgement.ok()?.result;
-        self.read_back(label, data, &text);
+        self.read_back(label, data, style, &text);
         Some(text)
     }
 
-    /// Under all grammars a written text has the label and the data.
-    fn read_back(&mut self, label: &[u8], data: &[u8], text: &[u8]) {
+    /// What is refused for its style alone, a careless call might write in the style that takes the most room.
+    fn size_if_refused(&mut self, label: &[u8], data: &[u8], judgement: &Judgement<u8>) -> usize {
+        match judgement {
+            Err(refusal) if refusal.number == number::WRITER_UNKNOWN_STYLE => {
+                let written = self.paper.judge_write(label, data, style::CRLF);
+                written.map_or(0, |found| found.result.len())
+            }
+            _ => label.len() + data.len(),
+        }
+    }
+
+    /// Under all grammars a written text has the label, the data and the style.
+    fn read_back(&mut self, label: &[u8], data: &[u8], style: u32, text: &[u8]) {
         let back = Ok(Found {
             result: data.to_vec(),
             label: (BEGIN.len(), label.len()),
+            style,
         });
         for grammar in GRAMMARS {
             self.read(text, grammar, data.len(), &back);
@@ -198,15 +213,17 @@ impl Trial {
         });
     }
 
-    fn write_once(&mut self, label: &[u8], data: &[u8], room: usize, judgement: &Judgement<u8>) {
+    fn write_once(&mut self, label: &[u8], data: &[u8], style: u32, room: usize, judgement: &Judgement<u8>) {
         let input = Input {
             call: Call::Write,
-            grammar: 0,
+            asked: style,
             text: label,
             data: Some(data),
         };
         let expected = answer(judgement, room);
-        self.compare(&input, &expected, |lent, report| raw::write(label, data, lent, report));
+        self.compare(&input, &expected, |lent, report| {
+            raw::write(label, data, style, lent, report)
+        });
     }
 
     /// The label call has no number: 0 stands in its report, and nothing else but the part.
@@ -217,6 +234,7 @@ impl Trial {
             place: 0,
             size: 0,
             label: label_part(judgement),
+            style: 0,
             lent: Vec::<u8>::new(),
         };
         let refused_by = judgement.as_ref().map_or_else(|refusal| refusal.number, |_| 0);
@@ -253,7 +271,7 @@ impl Trial {
         if let Some(difference) = difference(expected, returned, &report, &lent) {
             fail(&describe(input, expected.lent.len(), &difference));
         }
-        self.tally.count(input.call, input.grammar, counted);
+        self.tally.count(input.call, input.asked, counted, expected.style);
     }
 }
 
@@ -273,7 +291,9 @@ fn expected_report<T>(expected: &Answer<T>) -> Report {
         size: expected.size as u64,
         label_offset: expected.label.0 as u64,
         label_length: expected.label.1 as u64,
-        reserved: [0; 3],
+        reserved5: 0,
+        style: u64::from(expected.style),
+        reserved7: 0,
     }
 }
 
@@ -306,15 +326,18 @@ fn difference<T: Cell>(expected: &Answer<T>, returned: u32, report: &LentReport,
 }
 
 fn describe(input: &Input, room: usize, difference: &str) -> String {
-    let name = if input.data.is_some() { "label" } else { "text" };
+    let (name, asked) = match input.call {
+        Call::Write => ("label", "style"),
+        _ => ("text", "grammar"),
+    };
     let text = format!("{name}: {}", shown(input.text));
     let data = input
         .data
         .map_or(String::new(), |data| format!("\ndata: {}", shown(data)));
     let call = format!("{:?}", input.call).to_lowercase();
     format!(
-        "{call} disagrees with the paper\n{text}{data}\ngrammar: {}\nroom: {room}\n{difference}",
-        input.grammar
+        "{call} disagrees with the paper\n{text}{data}\n{asked}: {}\nroom: {room}\n{difference}",
+        input.asked
     )
 }
 

@@ -1,7 +1,7 @@
 //! What stands between the boundaries: lines of each width and line end, damage at their edges, and runs of white.
 
 use super::damage;
-use super::lines::{Ends, Lines, Spacing, BLANK_WITHIN, CRLF, ENDS, LF, PLAIN, SPACINGS, WIDTHS};
+use super::lines::{Ends, Lines, Spacing, BLANK_WITHIN, CR, CRLF, ENDS, LF, PLAIN, SPACINGS, WIDTHS};
 use super::pairs;
 use crate::paper::LINE;
 use crate::random::Random;
@@ -49,11 +49,38 @@ const BYTES_IN: &[(&[usize], Ends, Spacing)] = &[
     (&[36], LF, BLANK_WITHIN),
 ];
 
-/// Where runs of white are put into a strict message of a full line and of one with two characters and two pads: before and
-/// in the opening, around and in each line, around the pads, and around the closing.
-const RUN_PLACES: [usize; 14] = [0, 5, 11, 17, 18, 34, 82, 83, 85, 86, 87, 88, 103, 104];
+/// Where runs of white are put into a strict message of a full line and of one with two characters and two pads, by line and
+/// column: before and in the opening, around and in each line, around the pads, and around the closing.
+const RUN_PLACES: [(usize, usize); 14] = [
+    (0, 0),
+    (0, 5),
+    (0, 11),
+    (0, 17),
+    (1, 0),
+    (1, 16),
+    (1, 64),
+    (2, 0),
+    (2, 2),
+    (2, 3),
+    (2, 4),
+    (3, 0),
+    (3, 15),
+    (4, 0),
+];
 const RUN_LENGTHS: [usize; 16] = [1, 2, 3, 4, 7, 8, 9, 15, 16, 17, 31, 32, 33, 63, 64, 65];
-const RUN_UNITS: [&[u8]; 8] = [b" ", b"\t", b" \t", b"\n", b"\r", b"\r\n", b"\x0b", b"\x0c "];
+/// What the runs are made of, and the message's own line ends. Those of a run are the same, so that one which is counted wrong
+/// shows; but for the last, whose CR may stand before an LF.
+const RUN_UNITS: [(&[u8], Ends); 9] = [
+    (b" ", LF),
+    (b"\t", CRLF),
+    (b" \t", CR),
+    (b"\n", LF),
+    (b"\r", CR),
+    (b"\r\n", CRLF),
+    (b"\x0b", CR),
+    (b"\x0c ", CRLF),
+    (b"\r", LF),
+];
 
 /// Long texts by length and width. The last is a single line.
 const LONG: [(usize, usize); 7] = [
@@ -183,9 +210,14 @@ pub fn every_byte(trial: &mut Trial, random: &mut Random) {
 
 /// Runs of white, by themselves and with each telling byte behind them.
 pub fn runs(trial: &mut Trial, random: &mut Random) {
-    let whole = Lines::of(&[LINE], 0, 2).text(random);
-    for ((place, unit), length) in pairs(&pairs(&RUN_PLACES, &RUN_UNITS), &RUN_LENGTHS) {
-        let (before, after) = whole.split_at(place);
+    for (((line, column), (unit, ends)), length) in pairs(&pairs(&RUN_PLACES, &RUN_UNITS), &RUN_LENGTHS) {
+        let lines = Lines {
+            ends,
+            ..Lines::of(&[LINE], 0, 2)
+        };
+        let lined = lines.lined(random);
+        let start = lined.starts.get(line).copied().unwrap_or(lined.text.len());
+        let (before, after) = lined.text.split_at(start + column);
         let run: Vec<u8> = unit.iter().copied().cycle().take(length).collect();
         trial.text(&[before, &run, after].concat(), &mut Rooms::Two(random));
         for byte in damage::TELLING {

@@ -5,7 +5,7 @@ use super::lines::{Lines, CRLF, ENDS, LF, PLAIN, SPACINGS};
 use super::pairs;
 use crate::paper::{BEGIN, END, HYPHENS, LABEL_LIMIT, LINE};
 use crate::random::Random;
-use crate::texts::label_of;
+use crate::texts::{label_of, style};
 use crate::trial::{Rooms, Trial};
 
 const BODY: &[u8] = b"\nZm8=\n";
@@ -59,11 +59,12 @@ pub fn labels(trial: &mut Trial, random: &mut Random) {
     }
 }
 
-/// In either order, and the first to the writer.
+/// In either order, and the first to the writer, in any style.
 fn try_labels(trial: &mut Trial, random: &mut Random, label: &[u8], other: &[u8]) {
     trial.text(&with_labels(label, other), &mut Rooms::Two(random));
     trial.text(&with_labels(other, label), &mut Rooms::Two(random));
-    trial.write(label, b"fo", &mut Rooms::Two(random));
+    let style = style(random);
+    trial.write(label, b"fo", style, &mut Rooms::Two(random));
 }
 
 /// Each edit at each place around where two messages meet, between lines with each line end, with blanks, or with none.

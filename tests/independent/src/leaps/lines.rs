@@ -13,15 +13,18 @@ pub const WIDTHS: [usize; 33] = [
 ];
 pub const LF: Ends = &[b"\n"];
 pub const CRLF: Ends = &[b"\r\n"];
+pub const CR: Ends = &[b"\r"];
 pub const ENDS: [Ends; 7] = [
     LF,
     CRLF,
-    &[b"\r"],
+    CR,
     &[b"\n", b"\r\n"],
     &[b"\r", b"\n"],
     &[b"\r\n", b"\r", b"\n"],
     &[b"\n", b"\n", b"\r"],
 ];
+/// What may stand behind one line in place of its line end, and in one case is none.
+pub const ODD_ENDS: [&[u8]; 8] = [b"\n", b"\r\n", b"\r", b"\r\r\n", b"\n\r", b"\r\n\r", b" \r", b"\x0b"];
 /// Behind so many characters of a line stands what stands within it.
 const WITHIN: usize = 16;
 const GROUP: usize = 4;
@@ -93,6 +96,8 @@ pub struct Lines {
     /// Whether the bits that are left over are any, and not zeros.
     pub spare: bool,
     pub ends: Ends,
+    /// A line, the opening being the first, that has a line end of its own.
+    pub odd: Option<(usize, &'static [u8])>,
     pub spacing: Spacing,
 }
 
@@ -119,6 +124,7 @@ impl Lines {
             last: fitting(widths.iter().sum(), groups, pads),
             spare: false,
             ends: LF,
+            odd: None,
             spacing: PLAIN,
         }
     }
@@ -192,8 +198,12 @@ impl Lines {
 
     fn add_end(&self, lined: &mut Lined) {
         let line = lined.starts.len() - 1;
+        let end = match self.odd {
+            Some((odd, end)) if odd == line => end,
+            _ => self.ends[line % self.ends.len()],
+        };
         lined.text.extend_from_slice(self.spacing.behind);
-        lined.text.extend_from_slice(self.ends[line % self.ends.len()]);
+        lined.text.extend_from_slice(end);
     }
 }
 
@@ -235,6 +245,22 @@ mod tests {
         let lined = lines.lined(&mut Random::new(1));
         assert_eq!(lined.starts, [0, 19, 21, 28, 37]);
         assert!(lined.text[37..].starts_with(END));
+    }
+
+    #[test]
+    fn one_line_may_have_a_line_end_of_its_own() {
+        let ended = |line| {
+            let lines = Lines {
+                odd: Some((line, b"\r\n")),
+                ..Lines::of(&[], 1, 0)
+            };
+            let text = lines.text(&mut Random::new(1));
+            text.split(|&byte| byte == b'\n').map(<[u8]>::len).collect::<Vec<_>>()
+        };
+        assert_eq!(
+            [0, 1, 2, 3].map(ended),
+            [[18, 4, 15, 0], [17, 5, 15, 0], [17, 4, 16, 0], [17, 4, 15, 0]]
+        );
     }
 
     #[test]

@@ -5,20 +5,21 @@
 mod bodies;
 mod boundaries;
 mod damage;
+mod line_ends;
 mod lines;
 mod outputs;
 mod random_lines;
 
-use crate::paper::{LAX, STANDARD, STRICT};
+use crate::paper::{style, LAX, STANDARD, STRICT};
 use crate::random::Random;
-use crate::tally::{Call, Tally, NO_GRAMMAR};
+use crate::tally::{Call, Tally};
 use crate::trial::{fail, Trial};
 pub use random_lines::text as random_text;
 
 /// Cases of one kind.
 struct Family {
     name: &'static str,
-    /// The calls, and their grammars, that it tries with inputs that are accepted and with ones that are refused.
+    /// The calls, and their grammars or styles, that it tries with inputs that are accepted and with ones that are refused.
     tried: &'static [(Call, u32)],
     run: fn(&mut Trial, &mut Random),
 }
@@ -35,13 +36,20 @@ const READERS: &[(Call, u32)] = &[
     (Call::Index, STANDARD),
     (Call::Index, STRICT),
 ];
-const WRITER: &[(Call, u32)] = &[(Call::Write, NO_GRAMMAR)];
+const READ_LAX: &[(Call, u32)] = &[(Call::Read, LAX)];
+const READ_LINES: &[(Call, u32)] = &[(Call::Read, STANDARD), (Call::Read, STRICT)];
+const READ_STRICT: &[(Call, u32)] = &[(Call::Read, STRICT)];
+const WRITER: &[(Call, u32)] = &[
+    (Call::Write, style::LF),
+    (Call::Write, style::CRLF),
+    (Call::Write, style::CR),
+];
 
 const fn family(name: &'static str, tried: &'static [(Call, u32)], run: fn(&mut Trial, &mut Random)) -> Family {
     Family { name, tried, run }
 }
 
-const FAMILIES: [Family; 14] = [
+const FAMILIES: [Family; 17] = [
     family("plain lines", READERS, bodies::plain),
     family("spaced lines", READERS, bodies::spaced),
     family("ragged lines", READERS, bodies::ragged),
@@ -50,13 +58,21 @@ const FAMILIES: [Family; 14] = [
     family("starts", READERS, bodies::starts),
     family("bytes", READERS, bodies::every_byte),
     family("runs of white", READERS, bodies::runs),
+    family("odd line ends", READ_LINES, line_ends::odd),
+    family("mixed line ends", READ_STRICT, line_ends::mixed),
+    family("line ends alone", READ_LAX, line_ends::alone),
     family("boundaries", READERS, boundaries::damaged),
     family("labels", READERS, boundaries::labels),
     family("joints", INDEX, boundaries::joints),
     family("rooms", READERS, outputs::rooms),
-    family("long texts", READERS, bodies::long),
+    family("long texts", READERS, long),
     family("written", WRITER, outputs::written),
 ];
+
+fn long(trial: &mut Trial, random: &mut Random) {
+    bodies::long(trial, random);
+    line_ends::long(trial, random);
+}
 
 /// Runs all families, and tells how many cases each had.
 pub fn run(trial: &mut Trial, random: &mut Random) -> Vec<String> {
@@ -76,11 +92,11 @@ impl Family {
 
     /// A family that no longer comes upon both, what is accepted and what is refused, is noticed.
     fn require_both(&self, tally: &Tally) {
-        for &(call, grammar) in self.tried {
-            let (accepted, refused) = tally.accepted_and_refused(call, grammar);
+        for &(call, asked) in self.tried {
+            let (accepted, refused) = tally.accepted_and_refused(call, asked);
             if accepted == 0 || refused == 0 {
                 let counts = format!("{accepted} cases are accepted, {refused} refused");
-                fail(&format!("{}, {call:?}, grammar {grammar}: {counts}", self.name));
+                fail(&format!("{}, {call:?}, asked for {asked}: {counts}", self.name));
             }
         }
     }

@@ -1,9 +1,9 @@
 //! What is lent: rooms around what may be written at once, by the reader and by the writer.
 
 use super::lines::{Lines, CRLF, SPACINGS};
-use crate::paper::{LABEL_LIMIT, LINE};
+use crate::paper::{LABEL_LIMIT, LINE, STYLES};
 use crate::random::Random;
-use crate::texts::label_of;
+use crate::texts::{label_of, unknown_number};
 use crate::trial::{Rooms, Trial};
 
 /// All lengths of data up to this one are tried: some lines.
@@ -58,22 +58,38 @@ fn texts_of(length: usize, random: &mut Random) -> [Vec<u8>; 6] {
     ]
 }
 
-/// Data of all lengths with all rooms, then with each label, then data of many lines.
+/// In each style: data of all lengths with all rooms, then with each label, then data of many lines.
 pub fn written(trial: &mut Trial, random: &mut Random) {
+    for style in STYLES {
+        written_in(style, trial, random);
+    }
+    for length in 0..=MOST_DATA {
+        for label in LABELS
+            .map(|length| label_of(length, random))
+            .iter()
+            .chain([&NO_LABEL.to_vec()])
+        {
+            let style = unknown_number(random);
+            trial.write(label, &random.bytes(length), style, &mut Rooms::Leaps);
+        }
+    }
+}
+
+fn written_in(style: u32, trial: &mut Trial, random: &mut Random) {
     for length in 0..=MOST_DATA {
         let label = label_of(length % (LABEL_LIMIT + 1), random);
-        trial.write(&label, &random.bytes(length), &mut Rooms::All);
+        trial.write(&label, &random.bytes(length), style, &mut Rooms::All);
         for label in LABELS.map(|length| label_of(length, random)) {
-            trial.write(&label, &random.bytes(length), &mut Rooms::Leaps);
+            trial.write(&label, &random.bytes(length), style, &mut Rooms::Leaps);
         }
-        trial.write(NO_LABEL, &random.bytes(length), &mut Rooms::Leaps);
+        trial.write(NO_LABEL, &random.bytes(length), style, &mut Rooms::Leaps);
     }
     for lines in 1..=MOST_LINES {
         for length in lines * LINE_DATA - 1..=lines * LINE_DATA + 1 {
-            trial.write(b"A", &random.bytes(length), &mut Rooms::Leaps);
+            trial.write(b"A", &random.bytes(length), style, &mut Rooms::Leaps);
         }
     }
     for byte in [0, u8::MAX] {
-        trial.write(b"A", &[byte; MOST_DATA], &mut Rooms::All);
+        trial.write(b"A", &[byte; MOST_DATA], style, &mut Rooms::All);
     }
 }

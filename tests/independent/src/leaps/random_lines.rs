@@ -1,7 +1,7 @@
 //! Random messages in lines, alone or joined, damaged at the edges of their lines or sound.
 
 use super::damage;
-use super::lines::{Lined, Lines, ENDS, PLAIN, SPACINGS, WIDTHS};
+use super::lines::{Lined, Lines, ENDS, ODD_ENDS, PLAIN, SPACINGS, WIDTHS};
 use crate::paper::LINE;
 use crate::random::Random;
 use crate::texts::label;
@@ -43,6 +43,7 @@ fn lines(random: &mut Random) -> Lines {
         label: label(random),
         spare: random.one_in(8),
         ends: random.pick(&ENDS),
+        odd: odd(random),
         spacing: if random.one_in(3) {
             random.pick(&SPACINGS)
         } else {
@@ -50,6 +51,12 @@ fn lines(random: &mut Random) -> Lines {
         },
         ..Lines::of(&widths, groups, pads).longer(more)
     }
+}
+
+/// One text in some has a line with a line end of its own, if it has so many lines.
+fn odd(random: &mut Random) -> Option<(usize, &'static [u8])> {
+    let (line, end) = (random.below(MOST_LINES + 2), random.pick(&ODD_ENDS));
+    random.one_in(4).then_some((line, end))
 }
 
 /// Half of them strict, the others all alike or each of its own.
