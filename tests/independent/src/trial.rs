@@ -1,7 +1,7 @@
 //! Runs the library's calls, each on outputs that hold old values, and compares all that they answer with the paper.
 
 use crate::lent::{Cell, Lent, LentReport};
-use crate::paper::{answer, label_part, number, style, Answer, Found, Judgement, Paper};
+use crate::paper::{answer, label_part, Answer, Found, Judgement, Paper};
 use crate::paper::{BEGIN, DATA_LIMIT, GRAMMARS, STRICT, STYLES};
 use crate::random::Random;
 use crate::tally::{Call, Tally};
@@ -166,24 +166,12 @@ impl Trial {
     /// Writes with the rooms given, reads back what was written, and hands that over if there is any.
     pub fn write(&mut self, label: &[u8], data: &[u8], style: u32, rooms: &mut Rooms) -> Option<Vec<u8>> {
         let judgement = self.paper.judge_write(label, data, style);
-        let size_if_refused = self.size_if_refused(label, data, &judgement);
-        for room in rooms.of(&judgement, size_if_refused) {
+        for room in rooms.of(&judgement, most_written(label, data)) {
             self.write_once(label, data, style, room, &judgement);
         }
         let text = judgement.ok()?.result;
         self.read_back(label, data, style, &text);
         Some(text)
-    }
-
-    /// What is refused for its style alone, a careless call might write in the style that takes the most room.
-    fn size_if_refused(&mut self, label: &[u8], data: &[u8], judgement: &Judgement<u8>) -> usize {
-        match judgement {
-            Err(refusal) if refusal.number == number::WRITER_UNKNOWN_STYLE => {
-                let written = self.paper.judge_write(label, data, style::CRLF);
-                written.map_or(0, |found| found.result.len())
-            }
-            _ => label.len() + data.len(),
-        }
     }
 
     /// Under all grammars a written text has the label, the data and the style.
@@ -273,6 +261,11 @@ impl Trial {
         }
         self.tally.count(input.call, input.asked, counted, expected.style);
     }
+}
+
+/// No text that a careless call might write of a label and data is longer, in whichever style.
+fn most_written(label: &[u8], data: &[u8]) -> usize {
+    40 + 2 * (label.len() + data.len())
 }
 
 /// What a function answers in a thread of its own, whose stack has this many bytes.
