@@ -1,11 +1,11 @@
 //! The cases: a call, a grammar and an input for it, as all sides take them.
 
 use crate::library;
-use crate::texts::{self, Layout, Messages, Text, LABEL, LABEL_AT, LONG_TEXT, WRITTEN};
+use crate::texts::{self, End, Layout, Messages, Text, LABEL, LABEL_AT, LONG_TEXT, WRITTEN};
 use crate::yardstick::{Message, YARDSTICKS};
 use std::fmt::Debug;
 use std::hint::black_box;
-use zullifern::{table_bound, Grammar, READ_LIMIT, TABLE_LIMIT, WRITTEN_LIMIT};
+use zullifern::{table_bound, Grammar, LineEnding, READ_LIMIT, TABLE_LIMIT, WRITTEN_LIMIT};
 
 /// What is lent as `whole` for a text up to [`LONG_TEXT`]: bytes of an output, or numbers of a table.
 pub const LONG_OUTPUT: usize = LONG_TEXT;
@@ -64,7 +64,8 @@ impl Case {
         match self.call {
             Call::Read => format!("read {grammar}, {layout}, {messages}{damage}"),
             Call::Index => format!("index {grammar}, {layout}, {messages}{damage}"),
-            Call::Write => format!("write, {messages}"),
+            Call::Write if self.layout == WRITTEN => format!("write, {messages}"),
+            Call::Write => format!("write, {layout}, {messages}"),
         }
     }
 
@@ -201,18 +202,27 @@ fn with_index(case: &Case, task: &impl Task) {
     task.run(case, &trial);
 }
 
+/// The line end that the library is asked for.
+fn ending(end: End) -> LineEnding {
+    match end {
+        End::Lf => LineEnding::Lf,
+        End::CrLf => LineEnding::CrLf,
+        End::BlankLf => unreachable!("no side writes blanks"),
+    }
+}
+
 fn with_write(case: &Case, task: &impl Task) {
-    let data = &case.messages.data();
-    let text = texts::message(LABEL, data);
+    let (data, end) = (&case.messages.data(), case.layout.end);
+    let text = texts::laid_out(LABEL, data, case.layout);
     let library = Side {
-        call: Box::new(|out| library::write(black_box(LABEL), black_box(data), out)),
+        call: Box::new(|out| library::write(black_box(LABEL), black_box(data), ending(end), out)),
         clears: true,
         text: text.len(),
         answer: Some(text.len()),
         result: &text,
     };
     let [ordinary, tuned] = YARDSTICKS.map(|yardstick| Side {
-        call: Box::new(move |out| (yardstick.write)(black_box(LABEL), black_box(data), out).ok()),
+        call: Box::new(move |out| (yardstick.write)(black_box(LABEL), black_box(data), end.bytes(), out).ok()),
         clears: false,
         text: text.len(),
         answer: Some(text.len()),

@@ -9,7 +9,7 @@ use std::fmt::Debug;
 use std::hint::black_box;
 use std::io;
 use std::process::{Command, ExitCode, Output};
-use zullifern::{DATA_LIMIT, WRITTEN_LIMIT};
+use zullifern::{written_size, LineEnding, DATA_LIMIT};
 
 /// The lengths of texts whose instructions are counted, in bytes.
 const LENGTHS: [usize; 3] = [64 << 10, 1 << 20, 16 << 20];
@@ -63,7 +63,8 @@ pub fn print_table() -> ExitCode {
 }
 
 fn print_head() {
-    let [data, written] = [DATA_LIMIT, WRITTEN_LIMIT].map(grouped);
+    let written = written_size(texts::LABEL.len(), DATA_LIMIT, LineEnding::Lf);
+    let [data, written] = [DATA_LIMIT, written].map(grouped);
     println!(
         "\
 Strict text, instructions of one call as valgrind's callgrind counts them, with as much lent as the result needs.

@@ -2,7 +2,7 @@
 
 use crate::yardstick::Message;
 use zullifern::raw::{self, Report};
-use zullifern::Grammar;
+use zullifern::{Grammar, LineEnding};
 
 pub fn read(text: &[u8], grammar: Grammar, out: &mut [u8]) -> Option<Message> {
     let mut report = Report::default();
@@ -21,8 +21,8 @@ pub fn index(text: &[u8], grammar: Grammar, table: &mut [u32]) -> Option<usize> 
     (number == 0).then_some(report.size as usize)
 }
 
-pub fn write(label: &[u8], data: &[u8], out: &mut [u8]) -> Option<usize> {
+pub fn write(label: &[u8], data: &[u8], ending: LineEnding, out: &mut [u8]) -> Option<usize> {
     let mut report = Report::default();
-    let number = raw::write(label, data, out, &mut report);
+    let number = raw::write(label, data, ending.number(), out, &mut report);
     (number == 0).then_some(report.size as usize)
 }

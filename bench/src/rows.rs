@@ -102,9 +102,11 @@ fn bundles() -> Vec<Case> {
 
 fn writes() -> Vec<Case> {
     let written = |messages| Case::strict(Call::Write, messages);
-    let mut cases = DATA.map(|data| lent_whole(written(Messages::Data(data)))).to_vec();
-    cases.push(written(Messages::Tiny(1)));
-    cases
+    let with_crlf = |case| Case { layout: CRLF, ..case };
+    let lf = DATA.map(|data| lent_whole(written(Messages::Data(data))));
+    let crlf = DATA.map(|data| with_crlf(written(Messages::Data(data))));
+    let tiny = written(Messages::Tiny(1));
+    [&lf[..], &[tiny], &crlf, &[with_crlf(tiny)]].concat()
 }
 
 fn refusals() -> Vec<Case> {

@@ -79,7 +79,7 @@ impl Layout {
 }
 
 impl End {
-    fn bytes(self) -> &'static [u8] {
+    pub fn bytes(self) -> &'static [u8] {
         match self {
             End::Lf => b"\n",
             End::CrLf => b"\r\n",
@@ -189,7 +189,7 @@ pub fn message(label: &[u8], data: &[u8]) -> Vec<u8> {
 }
 
 /// The text of a label and data in a layout.
-fn laid_out(label: &[u8], data: &[u8], layout: Layout) -> Vec<u8> {
+pub fn laid_out(label: &[u8], data: &[u8], layout: Layout) -> Vec<u8> {
     let end = layout.end.bytes();
     let characters: Vec<u8> = data.chunks(GROUP_DATA).flat_map(group).collect();
     let mut text = [BEGIN, label, HYPHENS, end].concat();

@@ -56,6 +56,7 @@ ordinary  One table of 256 values, and a character at a time: as most would writ
 tuned     The fastest in safe Rust that we know. Whoever finds a faster one puts it there.
 case      The call, the grammar of the library's side, the layout and the messages: 64 LF is lines of 64 characters with
           LF behind each; blank LF has a space before it; gaps of 16 is a space between each 16 characters.
+          All sides write 64 LF, or 64 CRLF where the case says so.
           10 MiB, 64 KiB and 2 KiB: one message whose strict text is as long as fits. A bundle has messages of about
           2 KiB, a tiny message has 99 bytes. A bad last byte or another closing label: all sides refuse the text.
           The yardsticks know the strict grammar only. Beside the library's standard and lax they read or index the

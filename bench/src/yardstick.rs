@@ -1,8 +1,8 @@
 //! The yardsticks: strict RFC 7468 text as safe Rust reads, indexes and writes it.
 //!
 //! They take and refuse what the library takes and refuses under the strict grammar, but say only roughly why and not
-//! where. They leave in a lent buffer whatever they wrote before a refusal, and whatever stood behind a result. They
-//! have all in common but their codecs.
+//! where, and do not tell line ends apart. They leave in a lent buffer whatever they wrote before a refusal, and
+//! whatever stood behind a result. They have all in common but their codecs.
 
 mod ordinary;
 mod tuned;
@@ -16,10 +16,9 @@ const TEXT_LIMIT: usize = 16_777_216;
 const LABEL_LIMIT: usize = 64;
 const DATA_LIMIT: usize = 8_388_608;
 
-/// Characters of a full line, the bytes they stand for, and the line with its LF.
+/// Characters of a full line, and the bytes they stand for.
 const LINE: usize = 64;
 const LINE_DATA: usize = 48;
-const LINE_WRITTEN: usize = LINE + 1;
 
 /// Characters of a group, and the bytes they stand for.
 const GROUP: usize = 4;
@@ -41,7 +40,7 @@ const ALPHABET: &[u8; 64] = b"ABCDEFGHIJKLMNOPQRSTUVWXYZabcdefghijklmnopqrstuvwx
 
 type Read = fn(&[u8], &mut [u8]) -> Result<Message, Refusal>;
 type Index = fn(&[u8], &mut [u32]) -> Result<usize, Refusal>;
-type Write = fn(&[u8], &[u8], &mut [u8]) -> Result<usize, Refusal>;
+type Write = fn(&[u8], &[u8], &[u8], &mut [u8]) -> Result<usize, Refusal>;
 
 /// One way to read, index and write strict text: [`read()`], [`index()`] and [`write()`] with a codec.
 pub struct Yardstick {
@@ -145,19 +144,34 @@ fn index<C: Codec>(text: &[u8], table: &mut [u32]) -> Result<usize, Refusal> {
     Ok(1 + messages * ENTRY)
 }
 
-/// Writes the strict text of a label and data to the start of `out`, and answers its length.
-fn write<C: Codec>(label: &[u8], data: &[u8], out: &mut [u8]) -> Result<usize, Refusal> {
+/// Writes the strict text of a label and data, with this line end, to the start of `out`, and answers its length.
+fn write<C: Codec>(label: &[u8], data: &[u8], end: &[u8], out: &mut [u8]) -> Result<usize, Refusal> {
+    match *end {
+        [end] => write_with::<C, 1, { LINE + 1 }>(label, data, &[end], out),
+        [first, second] => write_with::<C, 2, { LINE + 2 }>(label, data, &[first, second], out),
+        _ => unreachable!("a line end has one byte or two"),
+    }
+}
+
+/// The same for line ends of so many bytes, and lines of so many with theirs: as constants they cost nothing.
+#[inline]
+fn write_with<C: Codec, const ENDING: usize, const WRITTEN: usize>(
+    label: &[u8],
+    data: &[u8],
+    end: &[u8; ENDING],
+    out: &mut [u8],
+) -> Result<usize, Refusal> {
     if label.len() > LABEL_LIMIT || data.len() > DATA_LIMIT {
         return Err(Refusal::TooLong);
     }
     if !is_label(label) || data.is_empty() {
         return Err(Refusal::Malformed);
     }
-    let size = written_size(label.len(), data.len());
+    let size = written_size(label.len(), data.len(), ENDING);
     let out = out.get_mut(..size).ok_or(Refusal::Room)?;
-    let out = put_boundary(out, BEGIN, label);
-    let out = put_body::<C>(out, data);
-    put_boundary(out, END, label);
+    let out = put_boundary(out, BEGIN, label, end);
+    let out = put_body::<C, ENDING, WRITTEN>(out, data, end);
+    put_boundary(out, END, label, end);
     Ok(size)
 }
 
@@ -288,10 +302,10 @@ fn decode_last<C: Codec>(group: &[u8; GROUP]) -> Option<([u8; GROUP_DATA], usize
     (!spare).then_some((bytes, size))
 }
 
-/// How long the text of so many bytes of label and data is.
-fn written_size(label: usize, data: usize) -> usize {
-    let frame = BEGIN.len() + END.len() + 2 * (HYPHENS.len() + label + 1);
-    frame + data.div_ceil(GROUP_DATA) * GROUP + data.div_ceil(LINE_DATA)
+/// How long the text of so many bytes of label and data is, with so many for each line end.
+fn written_size(label: usize, data: usize, end: usize) -> usize {
+    let frame = BEGIN.len() + END.len() + 2 * (HYPHENS.len() + label + end);
+    frame + data.div_ceil(GROUP_DATA) * GROUP + data.div_ceil(LINE_DATA) * end
 }
 
 /// Puts a part at the start of `out`, and gives what is behind it.
@@ -301,27 +315,37 @@ fn put<'a>(out: &'a mut [u8], part: &[u8]) -> &'a mut [u8] {
     rest
 }
 
-fn put_boundary<'a>(out: &'a mut [u8], word: &[u8], label: &[u8]) -> &'a mut [u8] {
+fn put_boundary<'a, const ENDING: usize>(
+    out: &'a mut [u8],
+    word: &[u8],
+    label: &[u8],
+    end: &[u8; ENDING],
+) -> &'a mut [u8] {
     let out = put(out, word);
     let out = put(out, label);
     let out = put(out, HYPHENS);
-    put(out, &[LF])
+    put(out, end)
 }
 
-fn put_body<'a, C: Codec>(out: &'a mut [u8], data: &[u8]) -> &'a mut [u8] {
+fn put_body<'a, C: Codec, const ENDING: usize, const WRITTEN: usize>(
+    out: &'a mut [u8],
+    data: &[u8],
+    end: &[u8; ENDING],
+) -> &'a mut [u8] {
     let (lines, rest) = data.as_chunks::<LINE_DATA>();
-    let (place, out) = out.split_at_mut(lines.len() * LINE_WRITTEN);
-    for (line, [characters @ .., end]) in lines.iter().zip(place.as_chunks_mut::<LINE_WRITTEN>().0) {
+    let (place, out) = out.split_at_mut(lines.len() * WRITTEN);
+    for (line, place) in lines.iter().zip(place.as_chunks_mut::<WRITTEN>().0) {
+        let (characters, place) = place.split_first_chunk_mut().expect("a line is longer");
         C::encode_line(line, characters);
-        *end = LF;
+        place.copy_from_slice(end);
     }
     if rest.is_empty() {
         return out;
     }
-    put_last_line::<C>(out, rest)
+    put(put_last_line::<C>(out, rest), end)
 }
 
-/// Puts the line of 1 to 47 bytes, with its LF.
+/// Puts the line of 1 to 47 bytes.
 fn put_last_line<'a, C: Codec>(out: &'a mut [u8], data: &[u8]) -> &'a mut [u8] {
     let (place, out) = out.split_at_mut(data.len().div_ceil(GROUP_DATA) * GROUP);
     for (part, group) in data.chunks(GROUP_DATA).zip(place.as_chunks_mut().0) {
@@ -331,7 +355,7 @@ fn put_last_line<'a, C: Codec>(out: &'a mut [u8], data: &[u8]) -> &'a mut [u8] {
         // A part of n bytes has n + 1 characters.
         group[part.len() + 1..].fill(PAD);
     }
-    put(out, &[LF])
+    out
 }
 
 #[cfg(test)]
@@ -340,7 +364,7 @@ mod tests {
     use crate::library;
     use crate::texts::{self, Messages, Text, WRITTEN};
     use std::borrow::Cow;
-    use zullifern::{data_bound, table_bound, Grammar};
+    use zullifern::{data_bound, table_bound, Grammar, LineEnding};
 
     /// Bytes that matter somewhere in a text: marks, white, spare bits, cases, and what no text has.
     const DAMAGES: &[u8] = b"-=\r\n \tAah0+/~!_\0\x7F\x80\xFF";
@@ -381,13 +405,18 @@ mod tests {
     }
 
     fn agree_on_writing(label: &[u8], data: &[u8], room: usize) -> Option<Vec<u8>> {
+        agree_on_writing_with(LineEnding::Lf, label, data, room)
+    }
+
+    fn agree_on_writing_with(ending: LineEnding, label: &[u8], data: &[u8], room: usize) -> Option<Vec<u8>> {
         let mut theirs = vec![0; room];
-        let answer = library::write(label, data, &mut theirs);
+        let answer = library::write(label, data, ending, &mut theirs);
         let size = answer.unwrap_or(0);
         for Yardstick { name, write, .. } in YARDSTICKS {
             let mut ours = vec![0; room];
-            let why = format!("{name}: {label:?}, {} bytes", data.len());
-            assert_eq!(write(label, data, &mut ours).ok(), answer, "{why}");
+            let why = format!("{name}: {label:?}, {} bytes, {ending}", data.len());
+            let end = ending.as_str().as_bytes();
+            assert_eq!(write(label, data, end, &mut ours).ok(), answer, "{why}");
             assert!(ours[..size] == theirs[..size], "{why}");
         }
         answer.map(|size| theirs[..size].to_vec())
@@ -467,6 +496,20 @@ mod tests {
     }
 
     #[test]
+    fn line_ends_written() {
+        for length in [1, 47, 48, 49, 95, 96, 97] {
+            let data = texts::data(length);
+            let text = texts::message(b"A", &data);
+            for ending in LineEnding::ALL {
+                let text = with_ends(&text, ending.as_str().as_bytes());
+                let written = |room| agree_on_writing_with(ending, b"A", &data, room);
+                assert_eq!(written(text.len()), Some(text.clone()));
+                assert_eq!(written(text.len() - 1), None);
+            }
+        }
+    }
+
+    #[test]
     fn one_byte_changed() {
         let small = small();
         assert!(agree(&small));
@@ -513,7 +556,7 @@ mod tests {
         }
         let data = texts::data(DATA_LIMIT + 1);
         for length in [DATA_LIMIT, DATA_LIMIT + 1] {
-            let written = agree_on_writing(b"A", &data[..length], written_size(1, length));
+            let written = agree_on_writing(b"A", &data[..length], written_size(1, length, 1));
             assert_eq!(written.is_some(), length == DATA_LIMIT);
         }
     }
@@ -524,7 +567,7 @@ mod tests {
         let (label, lines, times) = ([b'x'; 17], 530, 487);
         let message = texts::message(&label, &texts::data(lines * LINE_DATA));
         let (opening, rest) = message.split_at(BEGIN.len() + label.len() + HYPHENS.len() + 1);
-        let (body, closing) = rest.split_at(lines * LINE_WRITTEN);
+        let (body, closing) = rest.split_at(lines * (LINE + 1));
         let mut text = [opening, &body.repeat(times), closing].concat();
         assert!(text.len() == TEXT_LIMIT && agree(&text));
         // One byte more, and strict but for its length: the last line ends in CRLF.
