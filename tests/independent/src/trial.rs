@@ -17,6 +17,8 @@ const AT_ONCE: [usize; 6] = [47, 48, 49, 63, 64, 65];
 const BEYOND: usize = 2;
 /// No message is shorter.
 const SHORTEST_MESSAGE: usize = 30;
+/// What the boundaries have beside their labels, with their line ends and those of a short line.
+const FRAME: usize = 40;
 /// A random input that is refused is lent no more than this: if it is over its limit it then costs its own memory alone.
 const LENT_IF_REFUSED: usize = LONG_TEXT;
 /// Of longer inputs a disagreement shows the ends alone, of this length each.
@@ -265,7 +267,7 @@ impl Trial {
 
 /// No text that a careless call might write of a label and data is longer, in whichever style.
 fn most_written(label: &[u8], data: &[u8]) -> usize {
-    40 + 2 * (label.len() + data.len())
+    FRAME + 2 * (label.len() + data.len())
 }
 
 /// What a function answers in a thread of its own, whose stack has this many bytes.

@@ -1,4 +1,5 @@
-//! Line ends where a leap over lines begins, goes on or ends: one that is unlike the others, all mixtures, and one alone.
+//! Line ends where a leap over lines begins, goes on or ends: one that is unlike the others, all mixtures, and few in a message
+//! that has no others. One that is forgotten, or counted as another, changes the style there.
 
 use super::lines::{Lines, ENDS, ODD_ENDS};
 use super::pairs;
@@ -7,7 +8,7 @@ use crate::random::Random;
 use crate::texts::{mixtures, LINE_ENDS, LONG_TEXT};
 use crate::trial::{Rooms, Trial};
 
-/// The line ends of one kind.
+/// So many of the choices of line ends, the first ones, are of one kind.
 const ONE_KIND: usize = 3;
 const WIDTHS: [usize; 4] = [4, 16, LINE, 76];
 /// How many full lines, and the groups and pads of the last one.

@@ -23,7 +23,7 @@ pub const ENDS: [Ends; 7] = [
     &[b"\r\n", b"\r", b"\n"],
     &[b"\n", b"\n", b"\r"],
 ];
-/// What may stand behind one line in place of its line end, and in one case is none.
+/// What may stand behind one line in place of its line end. The last is none.
 pub const ODD_ENDS: [&[u8]; 8] = [b"\n", b"\r\n", b"\r", b"\r\r\n", b"\n\r", b"\r\n\r", b" \r", b"\x0b"];
 /// Behind so many characters of a line stands what stands within it.
 const WITHIN: usize = 16;
