@@ -1,5 +1,5 @@
-//! The second implementation against the paper's own samples: the table, its "Also" paragraph, the written sizes, and samples of
-//! change requests. What is accepted at a limit takes too long here, and is in `limits.rs`.
+//! The second implementation against the paper's own samples: the table, its "Also" paragraph, the written sizes, and samples
+//! of change requests. What is accepted at a limit takes too long here, and is in `limits.rs`.
 
 use crate::paper::style::{CR, CRLF, LF, MIXED, NONE};
 use crate::paper::{answer, label_part, Answer, Paper, Refusal, GRAMMARS, LAX, STANDARD, STRICT, STYLES};
