@@ -24,7 +24,6 @@
 static const size_t STACK = (size_t)1 << 18;
 static const size_t GUARD = (size_t)1 << 28;
 static const int PAINT = 0xA5;
-static const uint32_t CRLF = 2;
 
 struct job;
 typedef uint32_t made_call(struct job *);
@@ -66,13 +65,6 @@ static uint32_t make_write(struct job *job) {
                            &job->report);
 }
 
-/* The bytes of the text of a label and data of these lengths: each line end is one byte more under CRLF. */
-static size_t written_size(const struct job *job) {
-    size_t lines = (job->length + 47) / 48;
-    size_t size = 32 + 2 * job->label_length + 4 * ((job->length + 2) / 3) + lines;
-    return job->style == CRLF ? size + lines + 2 : size;
-}
-
 static void stop(const char *why) {
     fprintf(stderr, "call: %s\n", why);
     exit(1);
@@ -99,7 +91,7 @@ static void choose(struct job *job, const char *name) {
         job->item = sizeof(uint32_t);
     } else if (strcmp(name, "write") == 0) {
         job->make = make_write;
-        job->room = written_size(job);
+        job->room = ZULLIFERN_WRITTEN_SIZE(job->label_length, job->length, job->style);
     } else {
         stop("there is no such call");
     }
