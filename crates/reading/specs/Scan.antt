@@ -45,7 +45,7 @@ bodyTallied kind.Pad t = padTallied t
 bodyTallied kind.Mark t = otherTallied t
 bodyTallied kind.Other t = otherTallied t
 
--- A byte of a part. What stands behind the closing is not counted.
+-- A byte of a part. What stands behind the closing is counted in none, but for its line ends.
 abbrev pub tallied : Part → Kind → Tally → Tally
 tallied part.Before k t = tally (t .before + 1) (t .opening) (t .body) (t .closing) (t .characters) (t .pads) (t .last) (t .ends)
 tallied part.Opening k t = tally (t .before) (t .opening + 1) (t .body) (t .closing) (t .characters) (t .pads) (t .last) (t .ends)

@@ -156,7 +156,7 @@ fn tally_body(tally: Tally, kind: Kind) -> Tally
     }
 }
 
-// A byte of a part, counted. What stands behind the closing is not counted.
+// A byte of a part, counted. What stands behind the closing is counted in none, but for its line ends.
 fn tally_byte(tally: Tally, part: Part, kind: Kind) -> Tally
     requires { ⌜ Roomy tally ⌝ }
     ensures { λ r. ⌜ r ≡ tallied part kind tally ⌝ }

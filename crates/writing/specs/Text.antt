@@ -1,5 +1,5 @@
--- What is written: opening, line end, lines of 64 characters, the rest, closing, line end; once for all kinds of line ends.
--- Assumes nothing.
+-- What is written: opening, line end, lines of 64 characters, the rest, closing, line end; once for all kinds of line ends. (The
+-- requirements, before their change request K7: "opening, LF, lines of 64 characters, the rest, closing, LF".) Assumes nothing.
 use mathlib.Core.List.{List, [], _∷_, _++_}
 use Prim.Native.Nat.{ℕ, zero, suc, _+_, _*_, _-_, _/_}
 use Rattle.base64.specs.Groups.{encode}
@@ -30,6 +30,6 @@ secondBytes Lf n = 0
 secondBytes CrLf n = n
 secondBytes Cr n = 0
 
--- Its length for a label of L and data of n bytes: 32 + 2L + 4⌈n/3⌉ + ⌈n/48⌉, and under CRLF ⌈n/48⌉ + 2 more.
+-- Its length for a label of L and data of n bytes: 32 + 2L + 4⌈n/3⌉ + ⌈n/48⌉, and under CRLF ⌈n/48⌉ + 2 more (K7).
 abbrev pub writtenSize : LineEnding → (L n : ℕ) → ℕ
 writtenSize s L n = 32 + 2 * L + 4 * ((n + 2) / 3) + (n + 47) / 48 + secondBytes s ((n + 47) / 48 + 2)
