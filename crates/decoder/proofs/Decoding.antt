@@ -14,10 +14,11 @@ use Rattle.grammar.proofs.Counts.{characters-append}
 use Rattle.decoder.specs.declared.Open.{Open}
 use Rattle.decoder.specs.declared.Open.the-variants.{Start}
 use Rattle.decoder.specs.declared.Fed.the-variants.{Held, Byte}
-use Rattle.runs.specs.Runs.{Characters, Outside, Blanks, LineEndAt, no-lines, between}
+use Rattle.runs.specs.Runs.{Characters, Outside, Blanks, LineEndAt, no-lines, OfLength, FullLength, between}
+use Rattle.runs.specs.declared.Lines.{Lines}
 use Rattle.runs.proofs.Runs.{run-none, run-more, run-then, between-join, line-end-inside}
 use Rattle.runs.proofs.Alphabet.{run-characters, characters-run, run-length, outside-characters, blanks-outside, line-end-outside}
-use Rattle.runs.proofs.Lined.{lines-inside, line-more, full-more, full-lines}
+use Rattle.runs.proofs.Lined.{lines-inside, line-more, full-more, full-lines, full-lengths, full-told}
 use Rattle.decoder.specs.Feeding.{HoldsValue, fedByte, aheadBody}
 use Rattle.decoder.proofs.Feeding.{ahead-next, ahead-none, rest-more, rest-next}
 use Rattle.decoder.specs.Tables.{mark, groupAt}
@@ -297,6 +298,25 @@ module _ {text : List ℕ} {old out out' : List ℕ} {from end groups last lf cr
         lines = line-more (d .lines) n b w some (p .inside (omega arith)) more inside blanks ended any;
         written = rw bytes at (decoded-line (lines-inside start (d .lines) .forward) (d .written) p (omega arith) _ (omega arith) (line-end-inside ended inside) (run-then (blanks-outside blanks) (line-end-outside ended)));
       }
+
+-- Full lines, whatever line ends they have: their length tells.
+pub record FullDecoded (text old out : List ℕ) (from end groups last : ℕ) : Type 0 where
+  pub lf : ℕ
+  pub crlf : ℕ
+  pub lines : DecodedLines text true old out from end groups last lf crlf
+
+pub decoded-lengths : {text old out : List ℕ} {from end groups last : ℕ} → FullDecoded text old out from end groups last → FullLength from end groups
+decoded-lengths d = full-lengths record { lf = d .lf; crlf = d .crlf; lines = d .lines .lines }
+
+pub decoded-told : {text old out : List ℕ} {from end groups last : ℕ} → FullDecoded text old out from end groups last → (r : Lines)
+    → (r .end ≡ end) × (r .groups ≡ groups) × (r .last ≡ last) × OfLength from end groups (r .lf) (r .crlf)
+    → DecodedLines text true old out from (r .end) (r .groups) (r .last) (r .lf) (r .crlf)
+decoded-told d r e = record {
+  size = d .lines .size;
+  room = rw (e .1) (d .lines .room);
+  lines = full-told record { lf = d .lf; crlf = d .crlf; lines = d .lines .lines } r e;
+  written = rw (e .0, e .1) (d .lines .written);
+}
 
 -- Of the output that they were decoded into only the length counts.
 pub lines-since : {text : List ℕ} {full : Bool} {old out : List ℕ} {from end groups last lf crlf : ℕ} → DecodedLines text full old out from end groups last lf crlf → (older : List ℕ)

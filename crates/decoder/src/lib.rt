@@ -205,52 +205,24 @@ pub fn put_full_lines(table: &[u32; 1024], text: &[u8], from: usize, out: &mut [
     let mut end = from;
     let mut groups = 0;
     let mut last = from;
-    let mut lf = 0;
-    let mut crlf = 0;
     let mut written = 0;
     while LINE_CHARS < text.len() - end {
         if out.len() - written <= LINE_BYTES {
-            return Lines {
-                end,
-                groups,
-                last,
-                lf,
-                crlf,
-            };
+            return runs::counted_lines(from, end, groups, last);
         }
         let width = runs::line_end_at(text, end + LINE_CHARS);
         if width == 0 {
-            return Lines {
-                end,
-                groups,
-                last,
-                lf,
-                crlf,
-            };
+            return runs::counted_lines(from, end, groups, last);
         }
         if MARK <= put_sixteen_groups(table, text, end, out, written) {
-            return Lines {
-                end,
-                groups,
-                last,
-                lf,
-                crlf,
-            };
+            return runs::counted_lines(from, end, groups, last);
         }
         last = end + LINE_CHARS;
         end = last + width;
         groups += LINE_GROUPS;
-        lf += CRLF_WIDTH - width;
-        crlf += width - LF_WIDTH;
         written += LINE_BYTES;
     }
-    Lines {
-        end,
-        groups,
-        last,
-        lf,
-        crlf,
-    }
+    runs::counted_lines(from, end, groups, last)
 }
 
 // Decodes the lines of whole groups that stand at a place, with blanks at their ends: full ones first, then of any length.

@@ -1,11 +1,12 @@
 -- Lines of whole groups, one after the other. Assumes nothing.
-use mathlib.Core.Path.{_≡_}
+use mathlib.Core.Path.{_≡_, refl}
 use mathlib.Core.Bool.{Bool, true, false, false≢true}
 use mathlib.Core.List.{List}
 use Prim.Native.Nat.{ℕ, _+_, _-_, _*_, _≤_, _<_}
 use native.Mathlib.Omega.{arith}
 use lib.ListN.{length}
-use Rattle.runs.specs.Runs.{Characters, Blanks, LineEndAt, IsLine, LinesTo, no-lines, a-line}
+use Rattle.runs.specs.Runs.{Characters, Blanks, LineEndAt, IsLine, LinesTo, no-lines, a-line, OfLength, FullLength}
+use Rattle.runs.specs.declared.Lines.{Lines}
 use Rattle.runs.proofs.Runs.{run-none, line-end-inside, line-end-width, line-end-behind}
 
 -- Where they are, and how many groups and line ends there can be.
@@ -74,3 +75,36 @@ full-more {text} {j = j} lines w a inside end ends =
 pub full-lines : {text : List ℕ} {i j groups m lf crlf : ℕ} → LinesTo text true i j groups m lf crlf → LinesTo text false i j groups m lf crlf
 full-lines no-lines = no-lines
 full-lines (a-line before n a b w e some line ends f) = a-line (full-lines before) n a b w e some line ends (λ t. absurd (false≢true t))
+
+-- ---- Full lines by their length
+
+-- Full lines, whatever line ends they have.
+pub record FullTo (text : List ℕ) (i j groups m : ℕ) : Type 0 where
+  pub lf : ℕ
+  pub crlf : ℕ
+  pub lines : LinesTo text true i j groups m lf crlf
+
+full-length : {text : List ℕ} {i j groups m lf crlf : ℕ} → LinesTo text true i j groups m lf crlf → OfLength i j groups lf crlf
+full-length no-lines = (omega arith, omega arith)
+full-length (a-line before n a b w e some line ends f) =
+    let h = full-length before in
+    let full = f refl in
+    let width = line-end-width (line-end-behind (line .lineEnd)) in
+    (omega (arith, h, full, width), omega (arith, h, full, width))
+
+pub full-lengths : {text : List ℕ} {i j groups m : ℕ} → FullTo text i j groups m → FullLength i j groups
+full-lengths t = record { lf = t .lf; crlf = t .crlf; length = full-length (t .lines) }
+
+-- Their length tells what line ends they have.
+full-counted : {text : List ℕ} {i j groups m : ℕ} → FullTo text i j groups m → (a b : ℕ) → OfLength i j groups a b → LinesTo text true i j groups m a b
+full-counted t a b o =
+    let h = full-length (t .lines) in
+    let lfs : t .lf ≡ a = omega (arith, h, o) in
+    let pairs : t .crlf ≡ b = omega (arith, h, o) in
+    rw (lfs, pairs) at (t .lines)
+
+-- What is answered of them.
+pub full-told : {text : List ℕ} {i j groups m : ℕ} → FullTo text i j groups m → (r : Lines)
+    → (r .end ≡ j) × (r .groups ≡ groups) × (r .last ≡ m) × OfLength i j groups (r .lf) (r .crlf)
+    → LinesTo text true i (r .end) (r .groups) (r .last) (r .lf) (r .crlf)
+full-told t r e = rw (e .0, e .1, e .2) (full-counted t (r .lf) (r .crlf) (e .3))

@@ -62,6 +62,16 @@ pub data LinesTo (text : List ℕ) (full : Bool) (i : ℕ) : (j groups m lf crlf
   a-line : {j groups m lf crlf : ℕ} → LinesTo text full i j groups m lf crlf → (n a b w : ℕ) → a ≡ j + 4 * n → 0 < n → IsLine text j a b (b + w) → 0 < w
       → (full ≡ true → (n ≡ 16) × (b ≡ a)) → LinesTo text full i (b + w) (groups + n) a (lf + (2 - w)) (crlf + (w - 1))
 
+-- Full lines of so many groups from i up to j, of which so many end with LF and so many with CRLF: what their lengths say.
+abbrev pub OfLength : (i j groups lf crlf : ℕ) → Type 0
+OfLength i j groups a b = (groups ≡ 16 * (a + b)) × (j ≡ i + 65 * a + 66 * b)
+
+-- There are such numbers.
+pub record FullLength (i j groups : ℕ) : Type 0 where
+  pub lf : ℕ
+  pub crlf : ℕ
+  pub length : OfLength i j groups lf crlf
+
 -- From the place i on stands what is left of a word behind its first n bytes.
 pub record Stands (text : List ℕ) (i : ℕ) (word : List ℕ) (n : ℕ) : Type 0 where
   pub room : i + (length word - n) ≤ length text

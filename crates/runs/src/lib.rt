@@ -7,7 +7,7 @@ ghost use lib.ListN.{length};
 ghost use Rattle.base64.specs.Alphabet.{AlphabetChar};
 ghost use Rattle.base64.specs.Values.{DecodeTable};
 ghost use Rattle.grammar.specs.Marks.{Blank};
-ghost use Rattle.runs.specs.Runs.{Characters, Blanks, Pads, LabelRun, LineEndAt, IsLine, LinesTo, Stands};
+ghost use Rattle.runs.specs.Runs.{Characters, Blanks, Pads, LabelRun, LineEndAt, IsLine, LinesTo, OfLength, FullLength, Stands};
 use base64::PAD;
 use grammar::CR;
 use grammar::FIRST_MARK;
@@ -244,6 +244,23 @@ pub fn line_at(values: &[u8; 256], text: &[u8], at: usize, short: bool) -> Line
     }
 }
 
+// Full lines with their line ends counted. Their length tells: a full line has 64 characters and no blanks, and what they have more
+// than one byte for each line end is that of CRLF. So nothing is counted line by line.
+pub fn counted_lines(from: usize, end: usize, groups: usize, last: usize) -> Lines
+    requires { ⌜ FullLength from end groups ⌝ }
+    ensures { λ r. ⌜ (r .end ≡ end) × (r .groups ≡ groups) × (r .last ≡ last) × OfLength from end groups (r .lf) (r .crlf) ⌝ }
+{
+    let lines = groups / LINE_GROUPS;
+    let crlf = end - from - (LINE_CHARS + LF_WIDTH) * lines;
+    Lines {
+        end,
+        groups,
+        last,
+        lf: lines - crlf,
+        crlf,
+    }
+}
+
 // The full lines that stand at a place, one after the other.
 pub fn full_lines(text: &[u8], from: usize) -> Lines
     requires { ⌜ from ≤ length (now text) ⌝ }
@@ -252,41 +269,19 @@ pub fn full_lines(text: &[u8], from: usize) -> Lines
     let mut end = from;
     let mut groups = 0;
     let mut last = from;
-    let mut lf = 0;
-    let mut crlf = 0;
     while LINE_CHARS < text.len() - end {
         if !all_characters(text, end, LINE_CHARS) {
-            return Lines {
-                end,
-                groups,
-                last,
-                lf,
-                crlf,
-            };
+            return counted_lines(from, end, groups, last);
         }
         let width = line_end_at(text, end + LINE_CHARS);
         if width == 0 {
-            return Lines {
-                end,
-                groups,
-                last,
-                lf,
-                crlf,
-            };
+            return counted_lines(from, end, groups, last);
         }
         last = end + LINE_CHARS;
         end = last + width;
         groups += LINE_GROUPS;
-        lf += CRLF_WIDTH - width;
-        crlf += width - LF_WIDTH;
     }
-    Lines {
-        end,
-        groups,
-        last,
-        lf,
-        crlf,
-    }
+    counted_lines(from, end, groups, last)
 }
 
 // Whether what is left of a word behind its first bytes stands at a place.

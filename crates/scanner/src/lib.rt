@@ -16,7 +16,7 @@ ghost use Rattle.machine.specs.declared.Phase.the-variants.{Strict, Word, Label
 ghost use Rattle.machine.specs.declared.LabelPhase.the-variants.{Start};
 ghost use Rattle.machine.specs.declared.StrictPhase.the-variants.{Data};
 ghost use Rattle.reading.specs.Ends.{RoomyEnds, endCounted};
-ghost use Rattle.reading.specs.Scan.{Roomy, noTally, bodyTallied, tallied, withEnds, byteTallied, stopped, scanOf};
+ghost use Rattle.reading.specs.Scan.{Roomy, noTally, bodyTallied, tallied, byteTallied, stopped, scanOf};
 ghost use Rattle.reading.proofs.Scans.{Within};
 ghost use Rattle.decoder.specs.Tables.{groupTable};
 ghost use Rattle.runs.specs.Runs.{between};
@@ -183,25 +183,21 @@ fn tally_byte(tally: Tally, part: Part, kind: Kind) -> Tally
 }
 
 // The line-end step: LF, LF behind CR and CR are told apart, in whatever part of a message they stand.
-fn tally_line_end(tally: Tally, behind: bool, b: u8) -> Tally
-    requires { ⌜ RoomyEnds (tally .ends) ⌝ }
-    ensures { λ r. ⌜ r ≡ withEnds tally (endCounted behind b (tally .ends)) ⌝ }
+fn count_end(ends: EndCounts, behind: bool, b: u8) -> EndCounts
+    requires { ⌜ RoomyEnds ends ⌝ }
+    ensures { λ r. ⌜ r ≡ endCounted behind b ends ⌝ }
 {
-    let mut ends = tally.ends;
-    let mut next = tally;
+    let mut next = ends;
     if b == LF {
         if behind {
-            ends.crlf = ends.crlf + 1;
-            next.ends = ends;
+            next.crlf = ends.crlf + 1;
             return next;
         }
-        ends.lf = ends.lf + 1;
-        next.ends = ends;
+        next.lf = ends.lf + 1;
         return next;
     }
     if b == CR {
-        ends.cr = ends.cr + 1;
-        next.ends = ends;
+        next.cr = ends.cr + 1;
         return next;
     }
     next
@@ -212,11 +208,10 @@ fn count_byte(values: &[u8; 256], tally: Tally, behind: bool, part: Part, b: u8)
     requires { ⌜ DecodeTable (now values) × Roomy tally × RoomyEnds (tally .ends) ⌝ }
     ensures { λ r. ⌜ r ≡ byteTallied behind b part tally ⌝ }
 {
-    tally_byte(
-        tally_line_end(tally, behind, b),
-        part,
-        engine::kind_of(values, b),
-    )
+    let ends = tally.ends;
+    let mut next = tally_byte(tally, part, engine::kind_of(values, b));
+    next.ends = count_end(ends, behind, b);
+    next
 }
 
 // So many line ends behind other bytes, LF and CRLF, counted; their bytes are counted apart.
