@@ -38,12 +38,12 @@ all-one : (s t : LineEnding) (ts : List LineEnding) → agreeing t ts ≡ Only s
 all-one s t [] e = (only-same t s e, tt)
 all-one s t (u ∷ us) e = go (eqb (lineEndingNumber u) (lineEndingNumber t)) refl e (all-one s t us)
   where
-    go : (b : Bool) → eqb (lineEndingNumber u) (lineEndingNumber t) ≡ b → cond b (agreeing t us) Mixed ≡ Only s → (agreeing t us ≡ Only s → All (λ v. v ≡ s) (t ∷ us))
+    go : (b : Bool) → eqb (lineEndingNumber u) (lineEndingNumber t) ≡ b → agreeing t (u ∷ us) ≡ Only s → (agreeing t us ≡ Only s → All (λ v. v ≡ s) (t ∷ us))
         → All (λ v. v ≡ s) (t ∷ u ∷ us)
     go true f k ih =
-        let rest = ih k in
+        let rest = ih (rw f at k) in
         (rest .0, (number-same u t (eqb-true _ _ f) ∙ rest .0, rest .1))
-    go false f k ih = absurd (mixed-only s k)
+    go false f k ih = absurd (mixed-only s (rw f at k))
 
 pub only-all : (s : LineEnding) (ss : List LineEnding) → styleOf ss ≡ Only s → All (λ t. t ≡ s) ss
 only-all s [] e = absurd (none-only s e)
