@@ -6,6 +6,8 @@ pub mod Styles
 pub mod Grammars
 pub mod Message
 pub mod Counts
+pub mod Families
 pub mod Bundle
 pub mod Samples
+pub mod FamilySamples
 pub mod Claims

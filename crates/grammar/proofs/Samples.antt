@@ -7,11 +7,12 @@ use Prim.Native.Nat.{ℕ, zero, suc, _≤_}
 use native.Mathlib.Omega.{arith}
 use lib.Dec.{lit<, lit≤}
 use lib.ListN.{drop, replicate}
-use Rattle.base64.specs.Lists.{All}
+use Rattle.base64.specs.Lists.{All, sameBytes}
 use Rattle.base64.specs.Alphabet.{AlphabetChar, alphabet, placeIn, valueOf}
 use Rattle.grammar.specs.Marks.{hyphens, begin, end, White, lf, LabelChars, Label}
 use Rattle.grammar.specs.Grammars.{StandardLines, BlankLines, StandardBody, StandardAfter, Groups, StrictLines, StrictBody, Before, Body, After}
 use Rattle.grammar.specs.Message.{Reading, textOf, Shape, Consistent, dataOf, Message, characters, padCount}
+use Rattle.grammar.specs.Families.{familyIn}
 use Rattle.grammar.specs.Bundle.{joinedText, Shapes, Bundle}
 use Rattle.grammar.specs.Samples.{BundleRefused, Samples, beginA, endB, beginAB, endAB, beginEmpty, endEmpty, around, M, unendedM, itemA}
 use Rattle.grammar.specs.declared.Grammar.{Grammar}
@@ -245,8 +246,8 @@ long-line y label content m =
 M-shape : Shape Strict (closed M-body)
 M-shape = closed-shape Strict M-body M-strict-body
 
-once : Bundle Strict M (itemA ∷ []) (1 ∷ 0 ∷ 39 ∷ 11 ∷ 1 ∷ 1 ∷ [])
-unfolding valueOf placeIn alphabet characters
+once : Bundle Strict M (itemA ∷ []) (1 ∷ 0 ∷ 39 ∷ 11 ∷ 1 ∷ 1 ∷ 0 ∷ [])
+unfolding familyIn sameBytes valueOf placeIn alphabet characters
 once = record {
   readings = closed M-body ∷ [];
   joined = refl;
@@ -256,8 +257,8 @@ once = record {
   hasTable = refl;
 }
 
-twice : Bundle Strict (M ++ M) (itemA ∷ itemA ∷ []) (2 ∷ 0 ∷ 39 ∷ 11 ∷ 1 ∷ 1 ∷ 39 ∷ 39 ∷ 50 ∷ 1 ∷ 1 ∷ [])
-unfolding valueOf placeIn alphabet characters
+twice : Bundle Strict (M ++ M) (itemA ∷ itemA ∷ []) (2 ∷ 0 ∷ 39 ∷ 11 ∷ 1 ∷ 1 ∷ 0 ∷ 39 ∷ 39 ∷ 50 ∷ 1 ∷ 1 ∷ 0 ∷ [])
+unfolding familyIn sameBytes valueOf placeIn alphabet characters
 twice = record {
   readings = closed M-body ∷ closed M-body ∷ [];
   joined = refl;
@@ -273,8 +274,8 @@ unended-readings = reading M-body (65 ∷ []) [] ∷ closed M-body ∷ []
 unended-shapes : Shapes Standard unended-readings
 unended-shapes = (unended-shape, (record { shape = shape-widens strict-standard (closed M-body) M-shape; noneBefore = refl }, tt))
 
-unended : Bundle Standard (unendedM ++ M) (itemA ∷ itemA ∷ []) (2 ∷ 0 ∷ 38 ∷ 11 ∷ 1 ∷ 1 ∷ 38 ∷ 39 ∷ 49 ∷ 1 ∷ 1 ∷ [])
-unfolding valueOf placeIn alphabet characters
+unended : Bundle Standard (unendedM ++ M) (itemA ∷ itemA ∷ []) (2 ∷ 0 ∷ 38 ∷ 11 ∷ 1 ∷ 1 ∷ 0 ∷ 38 ∷ 39 ∷ 49 ∷ 1 ∷ 1 ∷ 0 ∷ [])
+unfolding familyIn sameBytes valueOf placeIn alphabet characters
 unended = record {
   readings = unended-readings;
   joined = refl;

@@ -6,6 +6,7 @@ use Prim.Native.Nat.{ℕ, _+_}
 use lib.ListN.{length}
 use Rattle.base64.specs.Lists.{All}
 use Rattle.grammar.specs.Marks.{begin}
+use Rattle.grammar.specs.Families.{familyOf}
 use Rattle.grammar.specs.Message.{Reading, textOf, Shape, Consistent, dataOf}
 use Rattle.grammar.specs.declared.Grammar.{Grammar}
 
@@ -32,7 +33,8 @@ pub record Item : Type 0 where
 abbrev pub itemOf : Reading → Item
 itemOf r = record { label = r .openingLabel; content = dataOf r }
 
--- The numbers of a message that starts at an offset of the text: start, length, label offset, label length, data size.
+-- The numbers of a message that starts at an offset of the text: start, length, label offset, label length, data size and
+-- family. (The requirements' tables have five numbers for a message; change request K6 adds the sixth.)
 abbrev pub entryOf : ℕ → Reading → List ℕ
 entryOf start r =
     start
@@ -40,6 +42,7 @@ entryOf start r =
     ∷ (start + (length (r .before) + length begin))
     ∷ length (r .openingLabel)
     ∷ length (dataOf r)
+    ∷ familyOf (r .openingLabel)
     ∷ []
 
 -- The numbers of messages end to end, of which the first starts at an offset of the text.

@@ -80,10 +80,10 @@ pub record Samples : Type 0 where
   -- a first line of 65 characters, whatever follows it
   pub longLine : (rest label content : List ℕ) → ¬ Message Strict (beginA ++ (10 ∷ (replicate 65 65 ++ rest))) label content
   -- M once and twice, under every grammar
-  pub once : (g : Grammar) → Bundle g M (itemA ∷ []) (1 ∷ 0 ∷ 39 ∷ 11 ∷ 1 ∷ 1 ∷ [])
-  pub twice : (g : Grammar) → Bundle g (M ++ M) (itemA ∷ itemA ∷ []) (2 ∷ 0 ∷ 39 ∷ 11 ∷ 1 ∷ 1 ∷ 39 ∷ 39 ∷ 50 ∷ 1 ∷ 1 ∷ [])
+  pub once : (g : Grammar) → Bundle g M (itemA ∷ []) (1 ∷ 0 ∷ 39 ∷ 11 ∷ 1 ∷ 1 ∷ 0 ∷ [])
+  pub twice : (g : Grammar) → Bundle g (M ++ M) (itemA ∷ itemA ∷ []) (2 ∷ 0 ∷ 39 ∷ 11 ∷ 1 ∷ 1 ∷ 0 ∷ 39 ∷ 39 ∷ 50 ∷ 1 ∷ 1 ∷ 0 ∷ [])
   -- M without its LF, then M: under standard, and so under lax, but not under strict
-  pub unended : Bundle Standard (unendedM ++ M) (itemA ∷ itemA ∷ []) (2 ∷ 0 ∷ 38 ∷ 11 ∷ 1 ∷ 1 ∷ 38 ∷ 39 ∷ 49 ∷ 1 ∷ 1 ∷ [])
+  pub unended : Bundle Standard (unendedM ++ M) (itemA ∷ itemA ∷ []) (2 ∷ 0 ∷ 38 ∷ 11 ∷ 1 ∷ 1 ∷ 0 ∷ 38 ∷ 39 ∷ 49 ∷ 1 ∷ 1 ∷ 0 ∷ [])
   pub unendedStrict : BundleRefused Strict (unendedM ++ M)
   -- the empty text is a bundle, and a text of two spaces is none even under lax
   pub none : (g : Grammar) → Bundle g [] [] (0 ∷ [])

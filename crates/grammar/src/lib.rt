@@ -75,6 +75,9 @@ impl Grammar {
     }
 }
 
+// The family of a label, by its number: 0 for a label that is in none.
+pub struct Family(pub u32);
+
 // A kind of line end: LF, CRLF, or CR with no LF behind it.
 pub enum LineEnding {
     Lf,

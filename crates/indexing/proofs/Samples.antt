@@ -6,10 +6,10 @@ use mathlib.Core.List.{List, [], _∷_}
 use Prim.Native.Nat.{ℕ}
 use lib.Dec.{T}
 use lib.ListN.{getD}
+use Rattle.base64.specs.Lists.{sameBytes}
 use Rattle.base64.specs.Alphabet.{alphabet, placeIn, valueOf}
 use Rattle.base64.proofs.Tests.{both, both-left, both-right}
 use Rattle.grammar.specs.Message.{characters, padCount}
-use Rattle.reading.specs.Data.{sameBytes}
 use Rattle.reading.proofs.Samples.{settled, refusal-settled, tested-same, rows-hold}
 use Rattle.indexing.specs.Answers.{tableSize, numberOf, placeOf, sizeOf}
 use Rattle.indexing.specs.Index.{indexOf, lentTable}

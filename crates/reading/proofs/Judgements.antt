@@ -9,8 +9,10 @@ use lib.Dec.{eqb, ltb}
 use lib.ListN.{length, getD}
 use native.Mathlib.Omega.{arith}
 use borrow.Author.Tests.{eqb-true, eq-eqb, ltb-true, ltb-false, lt-ltb, le-ltb}
+use Rattle.base64.specs.Lists.{sameBytes}
 use Rattle.base64.specs.Alphabet.{valueOf}
 use Rattle.base64.specs.Groups.{CountsFit, valuesOf, spareBits}
+use Rattle.base64.proofs.Lists.{same-refl, same-true, same-false}
 use Rattle.base64.proofs.Groups.{length-decode}
 use Rattle.grammar.specs.Marks.{opening, closing}
 use Rattle.grammar.specs.Message as message
@@ -25,14 +27,13 @@ use Rattle.reading.specs.Limits.{labelLimit}
 use Rattle.reading.specs.Answers.{offset, byteCount}
 use Rattle.reading.specs.Meaning as rows
 use Rattle.reading.specs.Meaning.{labelStart, bodyStart, closingStart, closingLabelStart, Sound, GrammarFails, MessageFails}
-use Rattle.reading.specs.Data.{sameBytes, spareOf}
+use Rattle.reading.specs.Data.{spareOf}
 use Rattle.reading.specs.Ends.{endsIn, countedStyle}
 use Rattle.reading.specs.Read.{layoutOf, grammarRefusal, countsFit, spareAsked, spareClear, judgedParts}
 use Rattle.reading.specs.declared.Judgement.{Judgement}
 use Rattle.reading.specs.declared.Judgement.the-variants as judgement
 use Rattle.reading.specs.declared.Refusal.{Refusal}
 use Rattle.reading.specs.declared.Refusal.the-variants.{BadOpening, BadBody, BadClosing, LabelTooLong, LabelsDiffer, BadCounts, SpareBits}
-use Rattle.reading.proofs.Data.{same-refl, same-true, same-false}
 use Rattle.reading.proofs.Tallies.{lastIndex, tallyOf, LastCharacter, last-character, last-index, spare-text}
 use Rattle.reading.proofs.Places.{readingLayout, layout-reading, label-part, body-cut, body-front, closing-label-part}
 use Rattle.reading.proofs.Checks.{counts-fit-true, counts-fit-test}

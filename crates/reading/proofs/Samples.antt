@@ -6,9 +6,10 @@ use mathlib.Core.List.{List, [], _∷_, _++_}
 use Prim.Native.Nat.{ℕ}
 use lib.Dec.{T, eqb}
 use lib.ListN.{getD}
-use Rattle.base64.specs.Lists.{All}
+use Rattle.base64.specs.Lists.{All, sameBytes}
 use Rattle.base64.specs.Alphabet.{alphabet, placeIn, valueOf}
 use Rattle.base64.proofs.Tests.{both, both-left, both-right}
+use Rattle.base64.proofs.Lists.{same-true}
 use Rattle.grammar.specs.Grammars.{laxNumber, standardNumber, strictNumber}
 use Rattle.grammar.specs.LineEnds.{styleNumber}
 use Rattle.grammar.specs.Message.{characters, padCount}
@@ -16,7 +17,6 @@ use Rattle.grammar.specs.declared.LineEnding.the-variants.{Lf, CrLf, Cr}
 use Rattle.grammar.specs.declared.LineStyle.{LineStyle}
 use Rattle.grammar.specs.declared.LineStyle.the-variants.{NoLineEnd, Only, Mixed}
 use Rattle.reading.specs.Answers.{offset, byteCount, span, refusalNumber, refusalPlace, numberOf, placeOf, sizeOf, labelOffsetOf, labelLengthOf, lineStyleOf}
-use Rattle.reading.specs.Data.{sameBytes}
 use Rattle.reading.specs.Read.{readOf, outputOf}
 use Rattle.reading.specs.Rows.{Row, RowHolds, Outcome, room, answerFor, outputFor, Holds}
 use Rattle.reading.specs.Samples.{rows, splitPads, spareBits, lineEnds, Samples}
@@ -25,7 +25,6 @@ use Rattle.reading.specs.declared.ReadAnswer.{ReadAnswer}
 use Rattle.reading.specs.declared.ReadAnswer.the-variants.{Accepted, Refused, OutputTooSmall}
 use Rattle.reading.specs.declared.Refusal.{Refusal}
 use Rattle.reading.specs.declared.Refusal.the-variants.{UnknownGrammar, TextTooLong, BadOpening, BadBody, BadClosing, LabelTooLong, LabelsDiffer, BadCounts, SpareBits}
-use Rattle.reading.proofs.Data.{same-true}
 use Rattle.reading.proofs.Meaning.{read-means}
 
 -- ---- An answer is settled by its numbers

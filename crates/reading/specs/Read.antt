@@ -5,6 +5,7 @@ use mathlib.Core.List.{List, [], _++_}
 use Prim.Native.Nat.{ℕ, _+_, _*_, _-_, _/_, _%_, _^_, _≤_, _<_}
 use lib.Dec.{eqb, ltb}
 use lib.ListN.{length, take, drop, getD, replicate}
+use Rattle.base64.specs.Lists.{sameBytes}
 use Rattle.base64.specs.Alphabet.{valueOf}
 use Rattle.base64.specs.Groups.{decode}
 use Rattle.base64.specs.declared.ByteCount.{ByteCount}
@@ -20,7 +21,7 @@ use Rattle.machine.specs.declared.Part.{Part}
 use Rattle.machine.specs.declared.Part.the-variants as part
 use Rattle.reading.specs.Answers.{offset, byteCount, span}
 use Rattle.reading.specs.Limits.{textLimit, labelLimit}
-use Rattle.reading.specs.Data.{sameBytes, spareOf}
+use Rattle.reading.specs.Data.{spareOf}
 use Rattle.reading.specs.Ends.{countedStyle}
 use Rattle.reading.specs.Scan.{noTally, scanOf}
 use Rattle.reading.specs.declared.Found.{Found}

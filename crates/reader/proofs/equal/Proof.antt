@@ -5,8 +5,8 @@ use native.Mathlib.Omega.{arith}
 use lib.ListN.{length, drop, getD, drop-of-length-le}
 use borrow.Author.Needs.{needs}
 use borrow.Author.Tests.{eq-eqb, ne-eqb}
-use Rattle.reading.specs.Data.{sameBytes}
-use Rattle.reading.proofs.Data.{same-lengths, same-next}
+use Rattle.base64.specs.Lists.{sameBytes}
+use Rattle.base64.proofs.Lists.{same-lengths, same-next}
 use Rattle.reader.proofs.equal.Statement.{statement}
 use Rattle.reader.proofs.equal.Tie as tie
 
