@@ -4,9 +4,11 @@ use mathlib.Core.Path.{_≡_}
 use mathlib.Core.Logic.{_⊎_}
 use mathlib.Core.List.{List, [], _∷_, _++_}
 use Prim.Native.Nat.{ℕ}
+use Prim.Native.String.{String}
 use lib.ListN.{replicate}
+use Rattle.base64.specs.Lists.{ascii}
 use Rattle.base64.specs.Alphabet.{pad}
-use Rattle.grammar.specs.Marks.{LineEnd}
+use Rattle.grammar.specs.Marks.{hyphens, begin, end, LineEnd}
 use Rattle.grammar.specs.Grammars.{FinalLine, Body}
 use Rattle.grammar.specs.Message.{Message}
 use Rattle.grammar.specs.Bundle.{Item, Bundle}
@@ -46,6 +48,11 @@ M = around (10 ∷ 90 ∷ 103 ∷ 61 ∷ 61 ∷ 10 ∷ [])
 
 abbrev pub unendedM : List ℕ
 unendedM = beginA ++ (10 ∷ 90 ∷ 103 ∷ 61 ∷ 61 ∷ 10 ∷ endA)
+
+-- A message by the labels of its boundaries and the one line between them, with LF.
+abbrev pub labelled : (opened closed line : String) → List ℕ
+labelled opened closed line =
+    begin ++ (ascii opened ++ (hyphens ++ (10 ∷ (ascii line ++ (10 ∷ (end ++ (ascii closed ++ (hyphens ++ (10 ∷ [])))))))))
 
 -- An item: "A" with the one byte 66 hex.
 abbrev pub itemA : Item

@@ -15,6 +15,7 @@ use Rattle.base64.specs.Groups.{CountsFit, valuesOf, spareBits}
 use Rattle.base64.proofs.Lists.{same-refl, same-true, same-false}
 use Rattle.base64.proofs.Groups.{length-decode}
 use Rattle.grammar.specs.Marks.{opening, closing}
+use Rattle.grammar.specs.Families.{familyOf}
 use Rattle.grammar.specs.Message as message
 use Rattle.grammar.specs.Message.{Reading, textOf, characters, padCount, dataOf}
 use Rattle.grammar.specs.Starts.{HasOpening, HasClosing}
@@ -24,12 +25,13 @@ use Rattle.machine.specs.declared.Part.{Part}
 use Rattle.machine.specs.declared.Part.the-variants as part
 use Rattle.machine.proofs.Parts.{rank}
 use Rattle.reading.specs.Limits.{labelLimit}
-use Rattle.reading.specs.Answers.{offset, byteCount}
+use Rattle.reading.specs.Answers.{offset, byteCount, family}
 use Rattle.reading.specs.Meaning as rows
 use Rattle.reading.specs.Meaning.{labelStart, bodyStart, closingStart, closingLabelStart, Sound, GrammarFails, MessageFails}
 use Rattle.reading.specs.Data.{spareOf}
 use Rattle.reading.specs.Ends.{endsIn, countedStyle}
 use Rattle.reading.specs.Read.{layoutOf, grammarRefusal, countsFit, spareAsked, spareClear, judgedParts}
+use Rattle.reading.specs.declared.Found.{Found}
 use Rattle.reading.specs.declared.Judgement.{Judgement}
 use Rattle.reading.specs.declared.Judgement.the-variants as judgement
 use Rattle.reading.specs.declared.Refusal.{Refusal}
@@ -43,8 +45,12 @@ use Rattle.reading.proofs.Checks.{counts-fit-true, counts-fit-test}
 abbrev spareTest : Grammar → List ℕ → Bool
 spareTest g cs = spareAsked g (eqb (spareBits (valuesOf cs)) 0)
 
+abbrev pub readingFound : ℕ → Reading → Found
+readingFound from r =
+    record { size = byteCount (length (dataOf r)); label = readingLayout from r .opened; family = family (familyOf (r .openingLabel)) }
+
 abbrev pub soundReading : ℕ → Reading → Judgement
-soundReading from r = judgement.Sound (readingLayout from r) (byteCount (length (dataOf r))) (countedStyle (endsIn (textOf r)))
+soundReading from r = judgement.Sound (readingLayout from r) (readingFound from r) (countedStyle (endsIn (textOf r)))
 
 abbrev pub judgedReading : Grammar → ℕ → Reading → Judgement
 judgedReading g from r =

@@ -9,7 +9,6 @@ use native.Mathlib.Omega.{arith}
 use native.Mathlib.Nat.{zero-add}
 use borrow.Author.Tests.{ltb-true, ltb-false, lt-ltb, le-ltb}
 use Rattle.base64.specs.Groups.{decode}
-use Rattle.base64.specs.declared.ByteCount.{ByteCount}
 use Rattle.grammar.specs.LineEnds.{LineEnds, styleOf}
 use Rattle.grammar.specs.Grammars.{grammarOf}
 use Rattle.grammar.specs.Message.{Reading, textOf, characters, dataOf}
@@ -26,12 +25,12 @@ use Rattle.machine.proofs.Machine.{partOf}
 use Rattle.machine.specs.declared.Part.{Part}
 use Rattle.machine.specs.declared.Part.the-variants as part
 use Rattle.reading.specs.Limits.{textLimit}
-use Rattle.reading.specs.Answers.{byteCount}
 use Rattle.reading.specs.Meaning as rows
 use Rattle.reading.specs.Meaning.{labelStart, Admitted, Parsed, Broken, Passed, Refuses, foundOf, Reads, HandsBack}
 use Rattle.reading.specs.Ends.{endsIn, countedStyle}
 use Rattle.reading.specs.Scan.{tally}
-use Rattle.reading.specs.Read.{spanned, layoutOf, Lies, grammarRefusal, isWhole, judgedParts, judgedBy, judgeOf, foundIn, answered, readOf, written, outputOf, labelIn, labelOf}
+use Rattle.reading.specs.Read.{spanned, layoutOf, Lies, grammarRefusal, isWhole, judgedParts, judgedBy, judgeOf, answered, readOf, written, outputOf, labelIn, labelOf}
+use Rattle.reading.specs.declared.Found.{Found}
 use Rattle.reading.specs.declared.Judgement.{Judgement}
 use Rattle.reading.specs.declared.Judgement.the-variants as judgement
 use Rattle.reading.specs.declared.Layout.{Layout}
@@ -42,7 +41,7 @@ use Rattle.reading.proofs.Ends.{ends-found}
 use Rattle.reading.proofs.Tallies.{tallyOf}
 use Rattle.reading.proofs.Places.{TallyFits, reading-fits, readingLayout, label-part, body-part, text-length, opening-length, closing-length}
 use Rattle.reading.proofs.Judgements as judgements
-use Rattle.reading.proofs.Judgements.{soundReading, judgedReading, parts-judged, Verdict, reading-judged, fails-judged, sound-judged, Tells, part-fails, fails-part}
+use Rattle.reading.proofs.Judgements.{readingFound, soundReading, judgedReading, parts-judged, Verdict, reading-judged, fails-judged, sound-judged, Tells, part-fails, fails-part}
 use Rattle.reading.proofs.Whole.{scanned, WholeReading, whole-reading, parse-whole, scan-longest, scan-tells}
 
 -- ---- The judgement of a text that has a reading
@@ -151,7 +150,7 @@ data-in text r e =
     ap (λ t. decode (characters (spanned t (readingLayout 0 r .body)))) (alone text r e) ∙ ap (λ l. decode (characters l)) (body-part [] r [])
 
 -- What is reported of a reading that stands at the start.
-found-in : (r : Reading) → foundIn (readingLayout 0 r) (byteCount (length (dataOf r))) ≡ foundOf r
+found-in : (r : Reading) → readingFound 0 r ≡ foundOf r
 found-in r = rw zero-add
 
 -- The answer and the output of a judgement that passed.
@@ -229,13 +228,13 @@ hands-back-label text number l (rows.none {refusal} f) = sym (ap (λ j. labelIn 
 
 -- ---- What the code has to know of a judgement that passed
 
-pub sound-fits : (text : List ℕ) (number : ℕ) (l : Layout) (size : ByteCount) (style : LineStyle) → judgeOf text number ≡ judgement.Sound l size style
-    → Lies (length text) l × (l .body .at .0 + l .body .length ≤ length text) × (size .0 ≡ length (decode (characters (spanned text (l .body)))))
-sound-fits text number l size style e = go l size style (subst (Judged text number) e (judge-means text number))
+pub sound-fits : (text : List ℕ) (number : ℕ) (l : Layout) (found : Found) (style : LineStyle) → judgeOf text number ≡ judgement.Sound l found style
+    → Lies (length text) l × (l .body .at .0 + l .body .length ≤ length text) × (found .size .0 ≡ length (decode (characters (spanned text (l .body)))))
+sound-fits text number l found style e = go l found style (subst (Judged text number) e (judge-means text number))
   where
-    go : (l : Layout) (size : ByteCount) (style : LineStyle) → Judged text number (judgement.Sound l size style)
-        → Lies (length text) l × (l .body .at .0 + l .body .length ≤ length text) × (size .0 ≡ length (decode (characters (spanned text (l .body)))))
-    go l size style (sound g r p) =
+    go : (l : Layout) (found : Found) (style : LineStyle) → Judged text number (judgement.Sound l found style)
+        → Lies (length text) l × (l .body .at .0 + l .body .length ≤ length text) × (found .size .0 ≡ length (decode (characters (spanned text (l .body)))))
+    go l found style (sound g r p) =
         let n : length text ≡ length (textOf r) = ap length (p .parsed .joined) in
         let t = text-length r in
         let o = opening-length (r .openingLabel) in
@@ -243,11 +242,11 @@ sound-fits text number l size style e = go l size style (subst (Judged text numb
         (omega arith, omega arith, ap length (sym (data-in text r (p .parsed .joined))))
 
 -- The same by the grammar, whichever number it has.
-pub known-fits : (g : Grammar) (text : List ℕ) (l : Layout) (size : ByteCount) (style : LineStyle) → judgedBy (Known g) text ≡ judgement.Sound l size style
-    → Lies (length text) l × (l .body .at .0 + l .body .length ≤ length text) × (size .0 ≡ length (decode (characters (spanned text (l .body)))))
-known-fits grammar.Lax text l size style e = sound-fits text 1 l size style e
-known-fits grammar.Standard text l size style e = sound-fits text 2 l size style e
-known-fits grammar.Strict text l size style e = sound-fits text 3 l size style e
+pub known-fits : (g : Grammar) (text : List ℕ) (l : Layout) (found : Found) (style : LineStyle) → judgedBy (Known g) text ≡ judgement.Sound l found style
+    → Lies (length text) l × (l .body .at .0 + l .body .length ≤ length text) × (found .size .0 ≡ length (decode (characters (spanned text (l .body)))))
+known-fits grammar.Lax text l found style e = sound-fits text 1 l found style e
+known-fits grammar.Standard text l found style e = sound-fits text 2 l found style e
+known-fits grammar.Strict text l found style e = sound-fits text 3 l found style e
 
 -- What the code has to know of a scan that has read a whole text of the grammar.
 pub whole-fits : (g : Grammar) (text : List ℕ) → isWhole (scanned g text) (length text) ≡ true → TallyFits (length text) ((scanned g text) .tally)

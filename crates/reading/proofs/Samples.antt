@@ -10,16 +10,17 @@ use Rattle.base64.specs.Lists.{All, sameBytes}
 use Rattle.base64.specs.Alphabet.{alphabet, placeIn, valueOf}
 use Rattle.base64.proofs.Tests.{both, both-left, both-right}
 use Rattle.base64.proofs.Lists.{same-true}
+use Rattle.grammar.specs.Families.{familyIn}
 use Rattle.grammar.specs.Grammars.{laxNumber, standardNumber, strictNumber}
 use Rattle.grammar.specs.LineEnds.{styleNumber}
 use Rattle.grammar.specs.Message.{characters, padCount}
 use Rattle.grammar.specs.declared.LineEnding.the-variants.{Lf, CrLf, Cr}
 use Rattle.grammar.specs.declared.LineStyle.{LineStyle}
 use Rattle.grammar.specs.declared.LineStyle.the-variants.{NoLineEnd, Only, Mixed}
-use Rattle.reading.specs.Answers.{offset, byteCount, span, refusalNumber, refusalPlace, numberOf, placeOf, sizeOf, labelOffsetOf, labelLengthOf, lineStyleOf}
+use Rattle.reading.specs.Answers.{offset, byteCount, span, family, refusalNumber, refusalPlace, numberOf, placeOf, sizeOf, labelOffsetOf, labelLengthOf, labelFamilyOf, lineStyleOf}
 use Rattle.reading.specs.Read.{readOf, outputOf}
 use Rattle.reading.specs.Rows.{Row, RowHolds, Outcome, room, answerFor, outputFor, Holds}
-use Rattle.reading.specs.Samples.{rows, splitPads, spareBits, lineEnds, Samples}
+use Rattle.reading.specs.Samples.{rows, splitPads, spareBits, lineEnds, families, Samples}
 use Rattle.reading.specs.declared.Found.{Found}
 use Rattle.reading.specs.declared.ReadAnswer.{ReadAnswer}
 use Rattle.reading.specs.declared.ReadAnswer.the-variants.{Accepted, Refused, OutputTooSmall}
@@ -57,10 +58,10 @@ refusal-settled accepted small refuse (BadCounts at) = refl
 refusal-settled accepted small refuse (SpareBits at) = refl
 
 abbrev codeOf : ReadAnswer → List ℕ
-codeOf a = numberOf a ∷ placeOf a ∷ sizeOf a ∷ labelOffsetOf a ∷ labelLengthOf a ∷ lineStyleOf a ∷ []
+codeOf a = numberOf a ∷ placeOf a ∷ sizeOf a ∷ labelOffsetOf a ∷ labelLengthOf a ∷ labelFamilyOf a ∷ lineStyleOf a ∷ []
 
 abbrev foundBy : List ℕ → Found
-foundBy l = record { size = byteCount (getD l 2 0); label = span (getD l 3 0) (getD l 4 0) }
+foundBy l = record { size = byteCount (getD l 2 0); label = span (getD l 3 0) (getD l 4 0); family = family (getD l 5 0) }
 
 abbrev styleBy : ℕ → LineStyle
 styleBy n = cond (eqb n 0) NoLineEnd (cond (eqb n 1) (Only Lf) (cond (eqb n 2) (Only CrLf) (cond (eqb n 3) (Only Cr) Mixed)))
@@ -73,7 +74,7 @@ style-coded (Only Cr) = refl
 style-coded Mixed = refl
 
 abbrev answerBy : List ℕ → ReadAnswer
-answerBy l = settled (Accepted (foundBy l) (styleBy (getD l 5 0))) (OutputTooSmall (foundBy l)) Refused (getD l 0 0) (getD l 1 0)
+answerBy l = settled (Accepted (foundBy l) (styleBy (getD l 6 0))) (OutputTooSmall (foundBy l)) Refused (getD l 0 0) (getD l 1 0)
 
 answer-coded : (a : ReadAnswer) → answerBy (codeOf a) ≡ a
 answer-coded (Accepted found style) = ap (Accepted found) (style-coded style)
@@ -135,5 +136,5 @@ outcome-holds number text o t =
     rw (a, p) at (read-means text number room)
 
 pub samples : Samples
-unfolding valueOf placeIn alphabet characters padCount sameBytes
-samples = rows-hold outcomeTest Holds outcome-holds (rows ++ (splitPads ++ (spareBits ++ lineEnds))) tt
+unfolding familyIn valueOf placeIn alphabet characters padCount sameBytes
+samples = rows-hold outcomeTest Holds outcome-holds (rows ++ (splitPads ++ (spareBits ++ (lineEnds ++ families)))) tt

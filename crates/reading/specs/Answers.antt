@@ -1,8 +1,9 @@
--- The numbers a caller may get, with the place, the size, the label's position and the style of the line ends that each answer
--- carries. Assumes nothing.
+-- The numbers a caller may get, with the place, the size, the label's position and family and the style of the line ends that
+-- each answer carries. Assumes nothing.
 use Prim.Native.Nat.{ℕ}
 use Rattle.base64.specs.declared.ByteCount.{ByteCount}
 use Rattle.grammar.specs.LineEnds.{styleNumber}
+use Rattle.grammar.specs.declared.Family.{Family}
 use Rattle.grammar.specs.declared.TextOffset.{TextOffset}
 use Rattle.reading.specs.declared.Span.{Span}
 use Rattle.reading.specs.declared.Refusal.{Refusal}
@@ -16,6 +17,10 @@ offset n = record { 0 = n }
 
 abbrev pub byteCount : ℕ → ByteCount
 byteCount n = record { 0 = n }
+
+-- A family, by its number.
+abbrev pub family : ℕ → Family
+family n = record { 0 = n }
 
 -- A part of a text, by the offset where it starts and its bytes.
 abbrev pub span : ℕ → ℕ → Span
@@ -69,6 +74,12 @@ abbrev pub labelLengthOf : ReadAnswer → ℕ
 labelLengthOf (Accepted found style) = found .label .length
 labelLengthOf (Refused refusal) = 0
 labelLengthOf (OutputTooSmall found) = found .label .length
+
+-- The number of the label's family; zero unless the answer is 0 or 10. (K6; no number of the requirements had it.)
+abbrev pub labelFamilyOf : ReadAnswer → ℕ
+labelFamilyOf (Accepted found style) = found .family .0
+labelFamilyOf (Refused refusal) = 0
+labelFamilyOf (OutputTooSmall found) = found .family .0
 
 -- The number of the style of the line ends; zero unless the answer is 0. (K7; no number of the requirements had it.)
 abbrev pub lineStyleOf : ReadAnswer → ℕ

@@ -10,6 +10,7 @@ use Rattle.base64.specs.Alphabet.{AlphabetChar}
 use Rattle.base64.specs.Groups.{CountsFit}
 use Rattle.grammar.specs.Marks.{begin, end, opening}
 use Rattle.grammar.specs.LineEnds.{LineEnds, styleOf}
+use Rattle.grammar.specs.Families.{familyOf}
 use Rattle.grammar.specs.Grammars.{grammarOf}
 use Rattle.grammar.specs.Message as message
 use Rattle.grammar.specs.Message.{Reading, textOf, Shape, characters, padCount, Consistent, dataOf}
@@ -18,7 +19,7 @@ use Rattle.grammar.specs.declared.LineEnding.{LineEnding}
 use Rattle.grammar.specs.declared.Grammar.{Grammar}
 use Rattle.grammar.specs.declared.Numbered.the-variants.{Known, Unknown}
 use Rattle.reading.specs.Limits.{textLimit, labelLimit}
-use Rattle.reading.specs.Answers.{offset, byteCount, span}
+use Rattle.reading.specs.Answers.{offset, byteCount, span, family}
 use Rattle.reading.specs.declared.Found.{Found}
 use Rattle.reading.specs.declared.Refusal.{Refusal}
 use Rattle.reading.specs.declared.Refusal.the-variants.{UnknownGrammar, TextTooLong, BadOpening, BadBody, BadClosing, LabelTooLong, LabelsDiffer, BadCounts, SpareBits}
@@ -109,16 +110,21 @@ pub data Refuses (text : List ℕ) (number : ℕ) : Refusal → Type 0 where
   messageFails : {refusal : Refusal} (g : Grammar) (r : Reading) → Parsed text number g r → MessageFails g 0 r refusal
       → Refuses text number refusal
 
--- What is reported of a reading: the data's length, the label's offset and length.
+-- What is reported of a reading: the data's length, the label's offset and length, and its family (K6).
 abbrev pub foundOf : Reading → Found
-foundOf r = record { size = byteCount (length (dataOf r)); label = span (labelStart r) (length (r .openingLabel)) }
+foundOf r =
+    record {
+      size = byteCount (length (dataOf r));
+      label = span (labelStart r) (length (r .openingLabel));
+      family = family (familyOf (r .openingLabel));
+    }
 
 -- The answer of the read call, and its output of `room` bytes.
 pub data Reads (text : List ℕ) (number room : ℕ) : ReadAnswer → List ℕ → Type 0 where
   -- 0: accepted; the data, and then zeros; the style of all line ends of the text (K7)
   accepted : (g : Grammar) (r : Reading) → Passed text number g r → length (dataOf r) ≤ room → (ss : List LineEnding) → LineEnds text ss
       → Reads text number room (Accepted (foundOf r) (styleOf ss)) (dataOf r ++ replicate (room - length (dataOf r)) 0)
-  -- 1 to 9: zeros only, and no style
+  -- 1 to 9: zeros only, no family and no style
   refused : {refusal : Refusal} → Refuses text number refusal → Reads text number room (Refused refusal) (replicate room 0)
   -- 10: lent output too small; zeros only, and no style
   outputTooSmall : (g : Grammar) (r : Reading) → Passed text number g r → room < length (dataOf r)

@@ -8,9 +8,9 @@ use lib.ListN.{length, take, drop, getD, replicate}
 use Rattle.base64.specs.Lists.{sameBytes}
 use Rattle.base64.specs.Alphabet.{valueOf}
 use Rattle.base64.specs.Groups.{decode}
-use Rattle.base64.specs.declared.ByteCount.{ByteCount}
 use Rattle.grammar.specs.Marks.{begin, end, hyphens}
 use Rattle.grammar.specs.Grammars.{grammarOf}
+use Rattle.grammar.specs.Families.{familyOf}
 use Rattle.grammar.specs.Message.{characters}
 use Rattle.grammar.specs.declared.Grammar.{Grammar}
 use Rattle.grammar.specs.declared.Grammar.the-variants.{Lax, Standard, Strict}
@@ -19,7 +19,7 @@ use Rattle.grammar.specs.declared.Numbered.the-variants.{Known, Unknown}
 use Rattle.machine.proofs.Machine.{start, partOf, accepting}
 use Rattle.machine.specs.declared.Part.{Part}
 use Rattle.machine.specs.declared.Part.the-variants as part
-use Rattle.reading.specs.Answers.{offset, byteCount, span}
+use Rattle.reading.specs.Answers.{offset, byteCount, span, family}
 use Rattle.reading.specs.Limits.{textLimit, labelLimit}
 use Rattle.reading.specs.Data.{spareOf}
 use Rattle.reading.specs.Ends.{countedStyle}
@@ -101,6 +101,9 @@ spareAsked Strict zero = zero
 abbrev pub spareClear : Grammar → List ℕ → Layout → Tally → Bool
 spareClear g text l t = spareAsked g (spareZero text l t)
 
+abbrev pub foundIn : List ℕ → Layout → Tally → Found
+foundIn text l t = record { size = byteCount (t .characters * 3 / 4); label = l .opened; family = family (familyOf (spanned text (l .opened))) }
+
 abbrev pub judgedParts : Grammar → List ℕ → Layout → Tally → Judgement
 judgedParts g text l t =
     cond
@@ -110,7 +113,7 @@ judgedParts g text l t =
     (labelsAgree text l)
     (cond
     (countsFit (t .characters) (t .pads))
-    (cond (spareClear g text l t) (judgement.Sound l (byteCount (t .characters * 3 / 4)) (countedStyle (t .ends))) (judgement.Refused (SpareBits (offset (lastAt l t)))))
+    (cond (spareClear g text l t) (judgement.Sound l (foundIn text l t) (countedStyle (t .ends))) (judgement.Refused (SpareBits (offset (lastAt l t)))))
     (judgement.Refused (BadCounts (l .closing))))
     (judgement.Refused (LabelsDiffer (l .closed .at))))
 
@@ -132,12 +135,9 @@ judgeOf text number = judgedBy (grammarOf number) text
 
 -- ---- Check 10, the answer and the output
 
-abbrev pub foundIn : Layout → ByteCount → Found
-foundIn l size = record { size = size; label = l .opened }
-
 abbrev pub answered : Judgement → ℕ → ReadAnswer
 answered (judgement.Refused r) room = Refused r
-answered (judgement.Sound l size style) room = cond (ltb room (size .0)) (OutputTooSmall (foundIn l size)) (Accepted (foundIn l size) style)
+answered (judgement.Sound l found style) room = cond (ltb room (found .size .0)) (OutputTooSmall found) (Accepted found style)
 
 abbrev pub readOf : List ℕ → ℕ → ℕ → ReadAnswer
 readOf text number room = answered (judgeOf text number) room
@@ -145,8 +145,8 @@ readOf text number room = answered (judgeOf text number) room
 -- Data and then zeros, or zeros only.
 abbrev pub written : Judgement → List ℕ → ℕ → List ℕ
 written (judgement.Refused r) text room = replicate room 0
-written (judgement.Sound l size style) text room =
-    cond (ltb room (size .0)) (replicate room 0) (decode (characters (spanned text (l .body))) ++ replicate (room - size .0) 0)
+written (judgement.Sound l found style) text room =
+    cond (ltb room (found .size .0)) (replicate room 0) (decode (characters (spanned text (l .body))) ++ replicate (room - found .size .0) 0)
 
 abbrev pub outputOf : List ℕ → ℕ → ℕ → List ℕ
 outputOf text number room = written (judgeOf text number) text room
@@ -154,7 +154,7 @@ outputOf text number room = written (judgeOf text number) text room
 -- The label's part of the text, empty where checks 1 to 9 refuse.
 abbrev pub labelIn : Judgement → List ℕ → List ℕ
 labelIn (judgement.Refused r) text = []
-labelIn (judgement.Sound l size style) text = spanned text (l .opened)
+labelIn (judgement.Sound l found style) text = spanned text (l .opened)
 
 abbrev pub labelOf : List ℕ → ℕ → List ℕ
 labelOf text number = labelIn (judgeOf text number) text

@@ -1,10 +1,10 @@
--- The counter samples: the rows of the requirements marked *, those of pads on two lines, of spare bits and of line ends, as one
--- list under one claim. Assumes nothing.
+-- The counter samples: the rows of the requirements marked *, those of pads on two lines, of spare bits, of line ends and of
+-- families, as one list under one claim. Assumes nothing.
 use mathlib.Core.List.{List, [], _∷_, _++_}
 use Prim.Native.Nat.{ℕ}
 use Rattle.base64.specs.Lists.{All}
-use Rattle.grammar.specs.Samples.{beginA, endA, endB, around, M, unendedM}
-use Rattle.reading.specs.Rows.{Row, RowHolds, row, Outcome, Holds, noLineEnd, lf, crlf, cr, mixed, no3, no4, no5, no7, no8, no9}
+use Rattle.grammar.specs.Samples.{beginA, endA, endB, around, M, unendedM, labelled}
+use Rattle.reading.specs.Rows.{Row, RowHolds, row, Outcome, tooSmall, Holds, noLineEnd, lf, crlf, cr, mixed, inFamily, no3, no4, no5, no7, no8, no9}
 
 -- The rows of the requirements.
 abbrev pub rows : List (Row Outcome)
@@ -115,6 +115,20 @@ lineEnds =
     ∷ row (ended (11 ∷ []) (12 ∷ []) []) (noLineEnd (102 ∷ [])) (no4 17) (no4 17)
     ∷ []
 
+-- K6: labels of families, and others.
+abbrev pub families : List (Row Outcome)
+families =
+    row (labelled "CMS" "CMS" "Zg==") (inFamily 3 5) (inFamily 3 5) (inFamily 3 5)
+    ∷ row (labelled "NEW CERTIFICATE REQUEST" "NEW CERTIFICATE REQUEST" "Zg==") (inFamily 23 3) (inFamily 23 3) (inFamily 23 3)
+    ∷ row (labelled "CERTIFICATE CHAIN" "CERTIFICATE CHAIN" "Zg==") (inFamily 17 0) (inFamily 17 0) (inFamily 17 0)
+    ∷ row (labelled "Cms" "Cms" "Zg==") (inFamily 3 0) (inFamily 3 0) (inFamily 3 0)
+    -- five bytes, for which there is no room
+    ∷ row (labelled "PUBLIC KEY" "PUBLIC KEY" "Zm9vYmE=") (tooSmall 10 9 5) (tooSmall 10 9 5) (tooSmall 10 9 5)
+    -- labels that differ in bytes, if not in family, and counts that do not fit
+    ∷ row (labelled "CERTIFICATE" "X509 CERTIFICATE" "Zg==") (no7 42) (no7 42) (no7 42)
+    ∷ row (labelled "CMS" "CMS" "Zg=") (no8 24) (no8 24) (no4 23)
+    ∷ []
+
 -- The claim.
 abbrev pub Samples : Type 0
-Samples = All (RowHolds Holds) (rows ++ (splitPads ++ (spareBits ++ lineEnds)))
+Samples = All (RowHolds Holds) (rows ++ (splitPads ++ (spareBits ++ (lineEnds ++ families))))

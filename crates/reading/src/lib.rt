@@ -2,6 +2,7 @@
 // specs/Meaning says in the grammars' relations what a caller gets, and proofs/ that the definitions mean just that. The crate
 // `reader` has the code.
 use base64::ByteCount;
+use grammar::Family;
 use grammar::LineStyle;
 use grammar::TextOffset;
 use machine::Phase;
@@ -67,17 +68,18 @@ pub enum Refusal {
     SpareBits(TextOffset),
 }
 
-// The checks 1 to 9: all passed, by a message with this layout, so many bytes of data and these line ends; or the first that
-// did not.
-pub enum Judgement {
-    Sound(Layout, ByteCount, LineStyle),
-    Refused(Refusal),
-}
-
-// What is reported of a message: how many bytes its data has, and where its label is.
+// What is reported of a message: how many bytes its data has, where its label is, and the label's family.
 pub struct Found {
     pub size: ByteCount,
     pub label: Span,
+    pub family: Family,
+}
+
+// The checks 1 to 9: all passed, by a message with this layout, of which this is reported, with these line ends; or the first
+// that did not.
+pub enum Judgement {
+    Sound(Layout, Found, LineStyle),
+    Refused(Refusal),
 }
 
 // The answer of `read`.

@@ -14,6 +14,7 @@ use Rattle.base64.specs.Alphabet.{Octet}
 use Rattle.base64.proofs.Groups.{length-decode}
 use Rattle.grammar.specs.Marks.{begin}
 use Rattle.grammar.specs.LineEnds.{lineEndingNumber, lineEndingOf, styleNumber, styleOf}
+use Rattle.grammar.specs.Families.{familyOf}
 use Rattle.grammar.specs.Grammars.{grammarOf, strictNumber, StrictBody}
 use Rattle.grammar.specs.Message.{Reading, textOf, Shape, characters, Consistent, dataOf}
 use Rattle.grammar.specs.Bundle.{joinedText, Later, Item, itemOf, tableOf, Bundle}
@@ -34,7 +35,7 @@ use Rattle.reading.specs.Limits.{textLimit}
 use Rattle.reading.specs.Meaning.{Passed}
 use Rattle.reading.specs.Read.{labelOf}
 use Rattle.reading.specs.Answers as reader
-use Rattle.reading.specs.Answers.{byteCount, span}
+use Rattle.reading.specs.Answers.{byteCount, span, family}
 use Rattle.reading.specs.declared.ReadAnswer.the-variants as read
 use Rattle.reading.proofs.Results.{passed-read, passed-label, zero-received}
 use Rattle.writing.specs.Limits.{dataLimit}
@@ -167,7 +168,7 @@ reads-back s label content text octets w number g known room fits =
     let strict = written-strict s label content octets (t .isLabel) (t .someData) in
     let given = passed-read (writtenText s label content) number room g (writtenReading s label content) passed (rw back fits) (strict .list) (strict .lineEnds) in
     rw same (
-      given .0 ∙ (λ i. read.Accepted record { size = byteCount (length (back i)); label = span (length begin) (length label) } (strict .style i)),
+      given .0 ∙ (λ i. read.Accepted record { size = byteCount (length (back i)); label = span (length begin) (length label); family = family (familyOf label) } (strict .style i)),
       given .1 ∙ ap (λ (d : List ℕ). d ++ replicate (room - length d) 0) back,
       passed-label (writtenText s label content) number g (writtenReading s label content) passed,
     )

@@ -8,6 +8,7 @@ use Rattle.base64.specs.Lists.{All}
 use Rattle.base64.specs.Alphabet.{Octet}
 use Rattle.grammar.specs.Marks.{begin}
 use Rattle.grammar.specs.LineEnds.{lineEndingNumber, lineEndingOf}
+use Rattle.grammar.specs.Families.{familyOf}
 use Rattle.grammar.specs.Grammars.{grammarOf, strictNumber}
 use Rattle.grammar.specs.Bundle.{Item}
 use Rattle.grammar.specs.declared.LineEnding.{LineEnding}
@@ -18,7 +19,7 @@ use Rattle.grammar.specs.declared.NumberedEnding.the-variants as end
 use Rattle.grammar.specs.declared.LineStyle.the-variants.{Only}
 use Rattle.reading.specs.Limits.{textLimit, labelLimit}
 use Rattle.reading.specs.Answers as reader
-use Rattle.reading.specs.Answers.{byteCount, span}
+use Rattle.reading.specs.Answers.{byteCount, span, family}
 use Rattle.reading.specs.Read.{readOf, outputOf, labelOf}
 use Rattle.reading.specs.declared.ReadAnswer.the-variants as read
 use Rattle.writing.specs.Limits.{dataLimit}
@@ -44,13 +45,13 @@ pub record Written (s : LineEnding) (label content text : List ℕ) : Type 0 whe
   pub zero : numberOf (writeOf label content (lineEndingNumber s) room) ≡ 0
   pub result : text ≡ take (sizeOf (writeOf label content (lineEndingNumber s) room)) (writeOutput label content (lineEndingNumber s) room)
 
--- Reading what was written returns label, data and style under each of the three grammars, given room: the read call's output
--- holds the data and then zeros, and the label call hands back the label.
+-- Reading what was written returns label, data and style under each of the three grammars, given room, and the label's family:
+-- the read call's output holds the data and then zeros, and the label call hands back the label.
 abbrev pub ReadsBack : Type 0
 ReadsBack =
     (s : LineEnding) (label content text : List ℕ) → All Octet content → Written s label content text
     → (number : ℕ) (g : Grammar) → grammarOf number ≡ Known g → (room : ℕ) → length content ≤ room
-    → (readOf text number room ≡ read.Accepted record { size = byteCount (length content); label = span (length begin) (length label) } (Only s))
+    → (readOf text number room ≡ read.Accepted record { size = byteCount (length content); label = span (length begin) (length label); family = family (familyOf label) } (Only s))
     × (outputOf text number room ≡ content ++ replicate (room - length content) 0)
     × (labelOf text number ≡ label)
 
