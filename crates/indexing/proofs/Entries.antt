@@ -5,17 +5,16 @@ use Prim.Native.Nat.{ℕ, suc, _+_, _*_}
 use lib.ListN.{length, length-append}
 use native.Mathlib.Omega.{arith}
 use native.Mathlib.Nat.{add-zero}
-use Rattle.grammar.specs.Message.{Reading, textOf, dataOf}
+use Rattle.grammar.specs.Message.{Reading, textOf}
 use Rattle.grammar.specs.Bundle.{joinedText, entryOf, entriesFrom, tableOf}
-use Rattle.reading.specs.Answers.{byteCount}
-use Rattle.reading.proofs.Places.{readingLayout}
+use Rattle.reading.proofs.Judgements.{readingFound}
 use Rattle.indexing.specs.Answers.{entryNumbers, sizeFor}
 use Rattle.indexing.specs.Index.{numbersOfAll, entryIn}
 use Rattle.indexing.specs.declared.Entry.{Entry}
 
 -- The entry of a message that starts at an offset, and those of messages end to end.
 abbrev pub entryAt : ℕ → Reading → Entry
-entryAt from r = entryIn from (length (textOf r)) (readingLayout from r) (byteCount (length (dataOf r)))
+entryAt from r = entryIn from (length (textOf r)) (readingFound from r)
 
 abbrev pub entriesAt : ℕ → List Reading → List Entry
 entriesAt from [] = []
@@ -37,7 +36,7 @@ entries-more from (s ∷ rs) r =
     let n : from + length (textOf s) + length (joinedText rs) ≡ from + length (textOf s ++ joinedText rs) = omega (arith, length-append (textOf s) (joinedText rs)) in
     ap (λ l. entryAt from s ∷ l) (entries-more (from + length (textOf s)) rs r ∙ ap (λ k. entriesAt (from + length (textOf s)) rs ++ (entryAt k r ∷ [])) n)
 
--- A message has five numbers, so the table has the size that the count asks for.
+-- A message has six numbers, so the table has the size that the count asks for.
 pub numbers-length : (es : List Entry) → length (numbersOfAll es) ≡ entryNumbers * length es
 numbers-length [] = refl
 numbers-length (e ∷ es) = omega (arith, numbers-length es)

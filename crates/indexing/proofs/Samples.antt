@@ -9,6 +9,7 @@ use lib.ListN.{getD}
 use Rattle.base64.specs.Lists.{sameBytes}
 use Rattle.base64.specs.Alphabet.{alphabet, placeIn, valueOf}
 use Rattle.base64.proofs.Tests.{both, both-left, both-right}
+use Rattle.grammar.specs.Families.{familyIn}
 use Rattle.grammar.specs.Message.{characters, padCount}
 use Rattle.reading.proofs.Samples.{settled, refusal-settled, tested-same, rows-hold}
 use Rattle.indexing.specs.Answers.{tableSize, numberOf, placeOf, sizeOf}
@@ -46,5 +47,5 @@ outcome-holds number text o t =
     rw (a, p) at (index-means text number room)
 
 pub samples : Samples
-unfolding valueOf placeIn alphabet characters padCount sameBytes
+unfolding familyIn valueOf placeIn alphabet characters padCount sameBytes
 samples = rows-hold outcomeTest Holds outcome-holds rows tt

@@ -11,18 +11,18 @@ use lib.Seq.{take-append-seam, drop-append-add}
 use native.Mathlib.Nat.{sub-zero, suc-sub-suc}
 use native.Mathlib.Omega.{arith}
 use borrow.Author.Tests.{ltb-true, ltb-false}
-use Rattle.base64.specs.declared.ByteCount.{ByteCount}
 use Rattle.grammar.specs.Grammars.{grammarOf}
 use Rattle.grammar.specs.declared.Grammar.{Grammar}
 use Rattle.grammar.specs.declared.Numbered.{Numbered}
 use Rattle.grammar.specs.declared.Numbered.the-variants.{Known, Unknown}
 use Rattle.grammar.specs.declared.LineStyle.{LineStyle}
+use Rattle.grammar.proofs.Families.{family-small}
 use Rattle.machine.proofs.Machine.{start, later, accepting}
 use Rattle.machine.specs.declared.State.{State}
-use Rattle.reading.specs.Answers.{byteCount}
 use Rattle.reading.specs.Limits.{textLimit, labelLimit}
 use Rattle.reading.specs.Ends.{countedStyle}
-use Rattle.reading.specs.Read.{layoutOf, labelsAgree, countsFit, spareClear, judgedParts}
+use Rattle.reading.specs.Read.{spanned, layoutOf, foundIn, labelsAgree, countsFit, spareClear, judgedParts}
+use Rattle.reading.specs.declared.Found.{Found}
 use Rattle.reading.specs.declared.Judgement.{Judgement}
 use Rattle.reading.specs.declared.Judgement.the-variants as judgement
 use Rattle.reading.specs.declared.Layout.{Layout}
@@ -41,48 +41,49 @@ use Rattle.indexing.proofs.Turns.{walk-on, walk-end}
 -- ---- What a judgement that passed tells
 
 -- A test whose failure refuses was passed,
-passed : (b : Bool) (j : Judgement) (r : Refusal) (l : Layout) (size : ByteCount) (style : LineStyle) → cond b j (judgement.Refused r) ≡ judgement.Sound l size style
-    → (b ≡ true) × (j ≡ judgement.Sound l size style)
-passed true j r l size style e = (refl, e)
-passed false j r l size style e = (cc, cc)
+passed : (b : Bool) (j : Judgement) (r : Refusal) (l : Layout) (found : Found) (style : LineStyle) → cond b j (judgement.Refused r) ≡ judgement.Sound l found style
+    → (b ≡ true) × (j ≡ judgement.Sound l found style)
+passed true j r l found style e = (refl, e)
+passed false j r l found style e = (cc, cc)
 
 -- and one whose success refuses was not.
-failed : (b : Bool) (j : Judgement) (r : Refusal) (l : Layout) (size : ByteCount) (style : LineStyle) → cond b (judgement.Refused r) j ≡ judgement.Sound l size style
-    → j ≡ judgement.Sound l size style
-failed true j r l size style e = cc
-failed false j r l size style e = e
+failed : (b : Bool) (j : Judgement) (r : Refusal) (l : Layout) (found : Found) (style : LineStyle) → cond b (judgement.Refused r) j ≡ judgement.Sound l found style
+    → j ≡ judgement.Sound l found style
+failed true j r l found style e = cc
+failed false j r l found style e = e
 
 -- Parts that passed are judged by the layout and the tally that they were given.
-parts-sound : (g : Grammar) (text : List ℕ) (m : Layout) (t : Tally) (l : Layout) (size : ByteCount) (style : LineStyle) → judgedParts g text m t ≡ judgement.Sound l size style
-    → judgement.Sound m (byteCount (t .characters * 3 / 4)) (countedStyle (t .ends)) ≡ judgement.Sound l size style
-parts-sound g text m t l size style e =
-    let a = failed (ltb labelLimit (m .opened .length)) _ _ l size style e in
-    let b = passed (labelsAgree text m) _ _ l size style a in
-    let c = passed (countsFit (t .characters) (t .pads)) _ _ l size style (b .1) in
-    passed (spareClear g text m t) _ _ l size style (c .1) .1
+parts-sound : (g : Grammar) (text : List ℕ) (m : Layout) (t : Tally) (l : Layout) (found : Found) (style : LineStyle) → judgedParts g text m t ≡ judgement.Sound l found style
+    → judgement.Sound m (foundIn text m t) (countedStyle (t .ends)) ≡ judgement.Sound l found style
+parts-sound g text m t l found style e =
+    let a = failed (ltb labelLimit (m .opened .length)) _ _ l found style e in
+    let b = passed (labelsAgree text m) _ _ l found style a in
+    let c = passed (countsFit (t .characters) (t .pads)) _ _ l found style (b .1) in
+    passed (spareClear g text m t) _ _ l found style (c .1) .1
 
--- The scan of a message that passed: it accepts, and the layout and the size come from its tally.
-record SoundScan (from : ℕ) (s : Scan) (l : Layout) (size : ByteCount) : Type 0 where
+-- The scan of a message that passed: it accepts, and what is reported of the message comes from its tally.
+record SoundScan (text : List ℕ) (from : ℕ) (s : Scan) (found : Found) : Type 0 where
   accepted : accepting (s .phase) ≡ true
-  laid : l ≡ layoutOf from (s .tally)
-  sized : size ≡ byteCount (s .tally .characters * 3 / 4)
+  told : found ≡ foundIn text (layoutOf from (s .tally)) (s .tally)
 
-sound-scan : (g : Grammar) (text : List ℕ) (from : ℕ) (s : Scan) (l : Layout) (size : ByteCount) (style : LineStyle) → judgedMessage g text from s ≡ judgement.Sound l size style
-    → SoundScan from s l size
-sound-scan g text from s l size style e =
-    let p = passed (accepting (s .phase)) _ _ l size style e in
-    let q : judgement.Sound (layoutOf from (s .tally)) (byteCount (s .tally .characters * 3 / 4)) (countedStyle (s .tally .ends)) ≡ judgement.Sound l size style = parts-sound g text (layoutOf from (s .tally)) (s .tally) l size style (p .1) in
-    record { accepted = p .0; laid = cc; sized = cc }
+sound-scan : (g : Grammar) (text : List ℕ) (from : ℕ) (s : Scan) (l : Layout) (found : Found) (style : LineStyle) → judgedMessage g text from s ≡ judgement.Sound l found style
+    → SoundScan text from s found
+sound-scan g text from s l found style e =
+    let p = passed (accepting (s .phase)) _ _ l found style e in
+    let q : judgement.Sound (layoutOf from (s .tally)) (foundIn text (layoutOf from (s .tally)) (s .tally)) (countedStyle (s .tally .ends)) ≡ judgement.Sound l found style =
+    parts-sound g text (layoutOf from (s .tally)) (s .tally) l found style (p .1) in
+    record { accepted = p .0; told = cc }
 
 -- The numbers of a message that passed can be held by a table, and the scan read a byte and stayed within the text.
 pub sound-holdable : (g : Grammar) (text : List ℕ) (from : ℕ) (first : State) → StartState g first → from ≤ length text → length text ≤ textLimit
-    → (l : Layout) (size : ByteCount) (style : LineStyle) → judgedMessage g text from (scanFrom g text from first) ≡ judgement.Sound l size style
-    → Holdable (entryIn from ((scanFrom g text from first) .length) l size)
+    → (l : Layout) (found : Found) (style : LineStyle) → judgedMessage g text from (scanFrom g text from first) ≡ judgement.Sound l found style
+    → Holdable (entryIn from ((scanFrom g text from first) .length) found)
     × (0 < (scanFrom g text from first) .length) × (from + (scanFrom g text from first) .length ≤ length text)
-sound-holdable g text from first i w h l size style e =
-    let s : SoundScan from (scanFrom g text from first) l size = sound-scan g text from _ l size style e in
+sound-holdable g text from first i w h l found style e =
+    let s : SoundScan text from (scanFrom g text from first) found = sound-scan g text from _ l found style e in
     let m : MessageFits text from (scanFrom g text from first) = message-fits g text from first i w (s .accepted) in
-    rw (s .laid, s .sized) (omega (arith, m))
+    let small = family-small (spanned text (layoutOf from ((scanFrom g text from first) .tally) .opened)) in
+    rw (s .told) (omega (arith, m, small))
 
 -- ---- The numbers of messages
 
@@ -178,12 +179,12 @@ reached-on {g} {text} {first} {at} r h j e =
 
 -- A message that passed is entered, and the walk goes on behind it.
 pub reached-next : {g : Grammar} {text : List ℕ} {first : State} {at count : ℕ} {table : List ℕ} → Reached g text first at count table → at < length text
-    → (l : Layout) (size : ByteCount) (style : LineStyle) → judgedMessage g text at (scanFrom g text at first) ≡ judgement.Sound l size style
-    → Reached g text later (at + (scanFrom g text at first) .length) (count + 1) (entered table count (entryIn at ((scanFrom g text at first) .length) l size))
-reached-next {g} {text} {first} {at} {count} {table} r h l size style e =
-    let s : SoundScan at (scanFrom g text at first) l size = sound-scan g text at _ l size style e in
+    → (l : Layout) (found : Found) (style : LineStyle) → judgedMessage g text at (scanFrom g text at first) ≡ judgement.Sound l found style
+    → Reached g text later (at + (scanFrom g text at first) .length) (count + 1) (entered table count (entryIn at ((scanFrom g text at first) .length) found))
+reached-next {g} {text} {first} {at} {count} {table} r h l found style e =
+    let s : SoundScan text at (scanFrom g text at first) found = sound-scan g text at _ l found style e in
     let m : MessageFits text at (scanFrom g text at first) = message-fits g text at first (r .isStart) (r .within) (s .accepted) in
-    let k : Entry = entryIn at ((scanFrom g text at first) .length) l size in
+    let k : Entry = entryIn at ((scanFrom g text at first) .length) found in
     record {
       entries = r .entries ++ (k ∷ []);
       most = r .most - 1;
@@ -233,8 +234,8 @@ walk-most (suc most) g text at first es fs e =
     go true (judgement.Refused r) e ih =
         let z : _≡_ {A = ℕ} 0 1 = cc in
         omega arith
-    go true (judgement.Sound l size style) e ih =
-        let k : Entry = entryIn at ((scanFrom g text at first) .length) l size in
+    go true (judgement.Sound l found style) e ih =
+        let k : Entry = entryIn at ((scanFrom g text at first) .length) found in
         omega (arith, ih k e, length-append es (k ∷ []))
     go false j e ih =
         let q : es ≡ fs = cc in

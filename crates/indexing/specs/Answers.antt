@@ -5,11 +5,11 @@ use Rattle.indexing.specs.declared.TableSize.{TableSize}
 use Rattle.indexing.specs.declared.IndexAnswer.{IndexAnswer}
 use Rattle.indexing.specs.declared.IndexAnswer.the-variants.{Accepted, Refused, TableTooSmall}
 
--- How many numbers a table has for each message.
+-- How many numbers a table has for each message. (K6; before it, five.)
 abbrev pub entryNumbers : ℕ
-entryNumbers = 5
+entryNumbers = 6
 
--- The size needed: 1 + 5 times the count.
+-- The size needed: 1 + 6 times the count.
 abbrev pub sizeFor : ℕ → ℕ
 sizeFor count = 1 + entryNumbers * count
 

@@ -7,7 +7,6 @@ use mathlib.Core.List.{List, [], _∷_, _++_}
 use Prim.Native.Nat.{ℕ, zero, suc, _+_, _-_, _^_, _≤_, _<_}
 use lib.Dec.{ltb}
 use lib.ListN.{length, take, drop, replicate}
-use Rattle.base64.specs.declared.ByteCount.{ByteCount}
 use Rattle.grammar.specs.Grammars.{grammarOf}
 use Rattle.grammar.specs.declared.Grammar.{Grammar}
 use Rattle.grammar.specs.declared.Numbered.{Numbered}
@@ -17,10 +16,10 @@ use Rattle.machine.specs.declared.State.{State}
 use Rattle.reading.specs.Answers.{span}
 use Rattle.reading.specs.Limits.{textLimit}
 use Rattle.reading.specs.Scan.{noTally, scanOf}
-use Rattle.reading.specs.Read.{layoutOf, grammarRefusal, judgedParts, foundIn}
+use Rattle.reading.specs.Read.{layoutOf, grammarRefusal, judgedParts}
+use Rattle.reading.specs.declared.Found.{Found}
 use Rattle.reading.specs.declared.Judgement.{Judgement}
 use Rattle.reading.specs.declared.Judgement.the-variants as judgement
-use Rattle.reading.specs.declared.Layout.{Layout}
 use Rattle.reading.specs.declared.Refusal.{Refusal}
 use Rattle.reading.specs.declared.Refusal.the-variants.{UnknownGrammar, TextTooLong}
 use Rattle.reading.specs.declared.Scan.{Scan}
@@ -33,7 +32,7 @@ use Rattle.indexing.specs.declared.Survey.the-variants as survey
 
 -- ---- The numbers of messages
 
--- The numbers of a message: start, length, label offset, label length, data size.
+-- The numbers of a message: start, length, label offset, label length, data size and family.
 abbrev pub numbersOf : Entry → List ℕ
 numbersOf e =
     e .message .at .0
@@ -41,6 +40,7 @@ numbersOf e =
     ∷ e .found .label .at .0
     ∷ e .found .label .length
     ∷ e .found .size .0
+    ∷ e .found .family .0
     ∷ []
 
 abbrev pub numbersOfAll : List Entry → List ℕ
@@ -55,6 +55,7 @@ Holdable e =
     × (e .found .label .at .0 < 2 ^ 32)
     × (e .found .label .length < 2 ^ 32)
     × (e .found .size .0 < 2 ^ 32)
+    × (e .found .family .0 < 2 ^ 32)
 
 -- A table with the numbers of one message more behind those of `count` others, where it has room for them.
 abbrev pub entered : List ℕ → ℕ → Entry → List ℕ
@@ -66,8 +67,8 @@ entered table count e =
 
 -- ---- Checks 3 to 9
 
-abbrev pub entryIn : ℕ → ℕ → Layout → ByteCount → Entry
-entryIn from n l size = record { message = span from n; found = foundIn l size }
+abbrev pub entryIn : ℕ → ℕ → Found → Entry
+entryIn from n found = record { message = span from n; found = found }
 
 -- The scan of a text from an offset on.
 abbrev pub scanFrom : Grammar → List ℕ → ℕ → State → Scan
@@ -99,7 +100,7 @@ pub data Walk : Type 0 where
 
 abbrev pub onward : Judgement → ℕ → ℕ → (Entry → Walk) → Walk
 onward (judgement.Refused r) from n next = fault r
-onward (judgement.Sound l size style) from n next = next (entryIn from n l size)
+onward (judgement.Sound l found style) from n next = next (entryIn from n found)
 
 -- From an offset on, behind the messages that were found before. A message has a byte at least, so a text has at most as
 -- many messages as bytes.

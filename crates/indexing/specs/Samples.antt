@@ -4,7 +4,7 @@ use mathlib.Core.List.{List, [], _∷_, _++_}
 use Prim.Native.Nat.{ℕ, _-_}
 use lib.ListN.{length, replicate}
 use Rattle.base64.specs.Lists.{All}
-use Rattle.grammar.specs.Samples.{beginA, endB, around, M, unendedM}
+use Rattle.grammar.specs.Samples.{beginA, endB, around, M, unendedM, labelled}
 use Rattle.reading.specs.Answers.{offset}
 use Rattle.reading.specs.Rows.{Row, RowHolds, row}
 use Rattle.reading.specs.declared.Refusal.{Refusal}
@@ -22,7 +22,7 @@ pub data Outcome : Type 0 where
 
 -- The numbers of the lent table: two messages fit, and a zero behind them.
 abbrev pub room : ℕ
-room = 12
+room = 14
 
 abbrev pub answerFor : Outcome → IndexAnswer
 answerFor (accepted table) = Accepted (tableSize (length table))
@@ -46,6 +46,13 @@ withSpareBits = around (10 ∷ 90 ∷ 104 ∷ 61 ∷ 61 ∷ 10 ∷ [])
 abbrev pub closedByB : List ℕ
 closedByB = beginA ++ (10 ∷ 90 ∷ 103 ∷ 61 ∷ 61 ∷ 10 ∷ (endB ++ (10 ∷ [])))
 
+-- A certificate and a private key, of one byte each.
+abbrev pub certificate : List ℕ
+certificate = labelled "CERTIFICATE" "CERTIFICATE" "Zg=="
+
+abbrev pub key : List ℕ
+key = labelled "PRIVATE KEY" "PRIVATE KEY" "Zg=="
+
 abbrev pub no3 : ℕ → Outcome
 no3 n = refused (BadOpening (offset n))
 
@@ -59,10 +66,16 @@ abbrev pub no9 : ℕ → Outcome
 no9 n = refused (SpareBits (offset n))
 
 abbrev pub twice : Outcome
-twice = accepted (2 ∷ 0 ∷ 39 ∷ 11 ∷ 1 ∷ 1 ∷ 39 ∷ 39 ∷ 50 ∷ 1 ∷ 1 ∷ [])
+twice = accepted (2 ∷ 0 ∷ 39 ∷ 11 ∷ 1 ∷ 1 ∷ 0 ∷ 39 ∷ 39 ∷ 50 ∷ 1 ∷ 1 ∷ 0 ∷ [])
 
 abbrev pub unended : Outcome
-unended = accepted (2 ∷ 0 ∷ 38 ∷ 11 ∷ 1 ∷ 1 ∷ 38 ∷ 39 ∷ 49 ∷ 1 ∷ 1 ∷ [])
+unended = accepted (2 ∷ 0 ∷ 38 ∷ 11 ∷ 1 ∷ 1 ∷ 0 ∷ 38 ∷ 39 ∷ 49 ∷ 1 ∷ 1 ∷ 0 ∷ [])
+
+abbrev pub withKey : Outcome
+withKey = accepted (2 ∷ 0 ∷ 59 ∷ 11 ∷ 11 ∷ 1 ∷ 1 ∷ 59 ∷ 59 ∷ 70 ∷ 11 ∷ 1 ∷ 6 ∷ [])
+
+abbrev pub withM : Outcome
+withM = accepted (2 ∷ 0 ∷ 59 ∷ 11 ∷ 11 ∷ 1 ∷ 1 ∷ 59 ∷ 39 ∷ 70 ∷ 1 ∷ 1 ∷ 0 ∷ [])
 
 abbrev pub rows : List (Row Outcome)
 rows =
@@ -75,9 +88,9 @@ rows =
     -- two spaces
     ∷ row (32 ∷ 32 ∷ []) (no3 2) (no3 0) (no3 0)
     -- SP between two messages: it belongs to the earlier, where it can
-    ∷ row (M ++ (32 ∷ M)) (accepted (2 ∷ 0 ∷ 40 ∷ 11 ∷ 1 ∷ 1 ∷ 40 ∷ 39 ∷ 51 ∷ 1 ∷ 1 ∷ [])) (no3 39) (no3 39)
+    ∷ row (M ++ (32 ∷ M)) (accepted (2 ∷ 0 ∷ 40 ∷ 11 ∷ 1 ∷ 1 ∷ 0 ∷ 40 ∷ 39 ∷ 51 ∷ 1 ∷ 1 ∷ 0 ∷ [])) (no3 39) (no3 39)
     -- SP before the first: it belongs to the first
-    ∷ row (32 ∷ M) (accepted (1 ∷ 0 ∷ 40 ∷ 12 ∷ 1 ∷ 1 ∷ [])) (no3 0) (no3 0)
+    ∷ row (32 ∷ M) (accepted (1 ∷ 0 ∷ 40 ∷ 12 ∷ 1 ∷ 1 ∷ 0 ∷ [])) (no3 0) (no3 0)
     -- a byte that cannot extend a whole message
     ∷ row (M ++ (65 ∷ [])) (no3 39) (no3 39) (no3 39)
     -- labels that differ in the first, and a second cut short: the first is judged before the second
@@ -87,8 +100,11 @@ rows =
     -- spare bits in the second, and in the first before a second whose labels differ (K8)
     ∷ row (M ++ withSpareBits) twice (no9 58) (no9 58)
     ∷ row (withSpareBits ++ closedByB) (no7 71) (no9 19) (no9 19)
-    -- M three times: 16 numbers are needed
-    ∷ row (M ++ (M ++ M)) (needs 16) (needs 16) (needs 16)
+    -- a key behind a certificate, and M: each has its own family (K6)
+    ∷ row (certificate ++ key) withKey withKey withKey
+    ∷ row (certificate ++ M) withM withM withM
+    -- M three times: 19 numbers are needed
+    ∷ row (M ++ (M ++ M)) (needs 19) (needs 19) (needs 19)
     ∷ []
 
 -- The claim.

@@ -8,7 +8,7 @@ use reading::Span;
 // How many numbers a table has or needs.
 pub struct TableSize(pub usize);
 
-// What the table tells of a message: where it is in the text, the size of its data and where its label is.
+// What the table tells of a message: where it is in the text, and what is reported of it.
 pub struct Entry {
     pub message: Span,
     pub found: Found,
