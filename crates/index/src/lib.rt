@@ -9,8 +9,7 @@ ghost use Rattle.grammar.specs.declared.Numbered.the-variants.{Known};
 ghost use Rattle.reading.specs.Limits.{textLimit};
 ghost use Rattle.indexing.specs.Answers.{sizeFor, numberOf};
 ghost use Rattle.indexing.specs.Meaning.{Indexes};
-ghost use Rattle.indexing.specs.Index.{Holdable, entered, entryIn, ScanFrom, judgedMessage, walkOf, walkBy, surveyed, Filled, indexOf, lentTable};
-use base64::ByteCount;
+ghost use Rattle.indexing.specs.Index.{Holdable, entered, ScanFrom, judgedMessage, walkOf, walkBy, surveyed, Filled, indexOf, lentTable};
 use grammar::Grammar;
 use grammar::Numbered;
 use grammar::TextOffset;
@@ -18,15 +17,13 @@ use indexing::Entry;
 use indexing::IndexAnswer;
 use indexing::Survey;
 use indexing::TableSize;
-use reading::Found;
 use reading::Judgement;
-use reading::Layout;
 use reading::Refusal;
 use reading::Scan;
 use reading::Span;
 
 // How many numbers a table has for each message.
-pub const ENTRY_NUMBERS: usize = 5;
+pub const ENTRY_NUMBERS: usize = 6;
 
 // Sets every number to zero.
 fn clear(table: &mut [u32])
@@ -63,22 +60,13 @@ fn put_entry(table: &mut [u32], count: usize, entry: Entry)
     let label = found.label;
     let label_start = label.at;
     let data = found.size;
+    let family = found.family;
     table[at] = start.0 as u32;
     table[at + 1] = message.length as u32;
     table[at + 2] = label_start.0 as u32;
     table[at + 3] = label.length as u32;
     table[at + 4] = data.0 as u32;
-}
-
-// What the table tells of a message that passed.
-fn entry_in(from: TextOffset, length: usize, layout: Layout, size: ByteCount) -> Entry
-    ensures { λ r. ⌜ r ≡ entryIn (from .0) length layout size ⌝ }
-{
-    let label = layout.opened;
-    Entry {
-        message: Span { at: from, length },
-        found: Found { size, label },
-    }
+    table[at + 5] = family.0;
 }
 
 // The checks 3 to 9 of the message that a scan has read.
@@ -117,8 +105,9 @@ fn walk(values: &[u8; 256], text: &[u8], grammar: Grammar, table: &mut [u32]) ->
         let scan = scanner::scan_text(values, text, from, grammar, first);
         let length = scan.length;
         match judge_message(values, text, grammar, from, scan) {
-            Judgement::Sound(layout, size, _) => {
-                put_entry(table, count, entry_in(from, length, layout, size));
+            Judgement::Sound(_, found, _) => {
+                let message = Span { at: from, length };
+                put_entry(table, count, Entry { message, found });
             }
             Judgement::Refused(refusal) => {
                 return Survey::Refused(refusal);
@@ -153,9 +142,9 @@ fn survey(text: &[u8], grammar: u32, table: &mut [u32]) -> Survey
     }
 }
 
-// Indexes a text that is to be a bundle of the grammar of this number. After `Accepted` the table holds the count, five numbers
-// for each message (start, length, label offset, label length, data size) and then zeros, after anything else zeros only,
-// whatever it held before. Any bytes may come in, any number and any length.
+// Indexes a text that is to be a bundle of the grammar of this number. After `Accepted` the table holds the count, six numbers
+// for each message (start, length, label offset, label length, data size, family) and then zeros, after anything else zeros
+// only, whatever it held before. Any bytes may come in, any number and any length.
 pub fn index(text: &[u8], grammar: u32, table: &mut [u32]) -> IndexAnswer
     ensures { λ r. ⌜ (r ≡ indexOf (now (text .entry)) grammar (length (now (table .entry)))) × (now (table .exit) ≡ lentTable (now (text .entry)) grammar (length (now (table .entry)))) × Indexes (now (text .entry)) grammar (length (now (table .entry))) r (now (table .exit)) ⌝ }
 {

@@ -19,7 +19,7 @@ ghost use Rattle.reading.specs.Answers.{refusalNumber, refusalPlace, numberOf};
 ghost use Rattle.reading.specs.Meaning.{Reads, HandsBack};
 ghost use Rattle.reading.specs.Scan.{noTally, scanOf};
 ghost use Rattle.reading.specs.Ends.{countedStyle};
-ghost use Rattle.reading.specs.Read.{Fits, Lies, spanned, layoutOf, grammarRefusal, labelsAgree, countsFit, lastAt, spareZero, spareClear, judgedParts, judgedScan, judgedBy, judgeOf, answered, readOf, written, outputOf, labelOf};
+ghost use Rattle.reading.specs.Read.{Fits, Lies, spanned, layoutOf, grammarRefusal, labelsAgree, countsFit, lastAt, spareZero, spareClear, foundIn, judgedParts, judgedScan, judgedBy, judgeOf, answered, readOf, written, outputOf, labelOf};
 use base64::Value;
 use grammar::Grammar;
 use grammar::LineEnding;
@@ -199,6 +199,19 @@ fn counted_style(ends: EndCounts) -> LineStyle
     LineStyle::Mixed
 }
 
+// What is reported of a message with this layout.
+fn found_in(text: &[u8], layout: Layout, tally: Tally) -> Found
+    requires { ⌜ Lies (length (now text)) layout ⌝ }
+    ensures { λ r. ⌜ r ≡ foundIn (now (text .entry)) layout tally ⌝ }
+{
+    let label = layout.opened;
+    Found {
+        size: base64::decoded_count(tally.characters),
+        label,
+        family: families::family_of(part_at(text, label)),
+    }
+}
+
 // The checks 6 to 9 of a message of the grammar.
 pub fn judge_parts(
     values: &[u8; 256],
@@ -231,11 +244,7 @@ pub fn judge_parts(
         return Judgement::Refused(Refusal::SpareBits(place));
     }
     let ends = tally.ends;
-    Judgement::Sound(
-        layout,
-        base64::decoded_count(tally.characters),
-        counted_style(ends),
-    )
+    Judgement::Sound(layout, found_in(text, layout, tally), counted_style(ends))
 }
 
 // The checks 3 to 9 of a text that was scanned from its start.
@@ -326,15 +335,15 @@ fn read_known(text: &[u8], grammar: Grammar, out: &mut [u8]) -> ReadAnswer
     let pass = scanner::scan_decoding(&values, &table, text, grammar, out);
     let scan = pass.scan;
     match judge_scan(&values, text, grammar, scan) {
-        Judgement::Sound(layout, size, style) => {
-            let label = layout.opened;
+        Judgement::Sound(layout, found, style) => {
+            let size = found.size;
             let body = layout.body;
             if out.len() < size.0 {
                 output::clear(out);
-                return ReadAnswer::OutputTooSmall(Found { size, label });
+                return ReadAnswer::OutputTooSmall(found);
             }
             put_body(&values, &table, text, body, pass, out);
-            ReadAnswer::Accepted(Found { size, label }, style)
+            ReadAnswer::Accepted(found, style)
         }
         Judgement::Refused(refusal) => {
             output::clear(out);

@@ -1,7 +1,7 @@
 // Numbers and parts of lent tables, at any index: what lies outside is zero.
 
-// 1 + 5 * 2184 numbers: a text of 65,536 bytes has at most 2184 messages, each of 30 bytes or more.
-pub const SIZE: usize = 10921;
+// 1 + 6 * 2184 numbers: a text of 65,536 bytes has at most 2184 messages, each of 30 bytes or more.
+pub const SIZE: usize = 13105;
 
 // What each number of a table is before a call.
 const STALE: u32 = 0xFFFFFFFF;

@@ -14,7 +14,7 @@ pub record Demand3 : Type 0 where
   -- table.
   pub unique : (g : Grammar) (text : List ℕ) (list list′ : List Item) (table table′ : List ℕ) → Bundle g text list table
       → Bundle g text list′ table′ → (list ≡ list′) × (table ≡ table′)
-  -- If strict accepts it, standard accepts it, with the same list and the same table, number for number;
+  -- If strict accepts it, standard accepts it, with the same list and the same table, number for number (six for each message, K6);
   pub strictToStandard : (text : List ℕ) (list : List Item) (table : List ℕ) → Bundle Strict text list table → Bundle Standard text list table
   -- and if standard does, lax does.
   pub standardToLax : (text : List ℕ) (list : List Item) (table : List ℕ) → Bundle Standard text list table → Bundle Lax text list table

@@ -1,7 +1,7 @@
 // The door of the library: the calls for C and for Rust. Any bytes may come in, any number and any length.
 //
-// Each call fills a report of eight numbers: the answer's number, its place, its size, the label's offset and its length, zero,
-// the style of the line ends, and zero. A slice is handed over as a pointer and a length.
+// Each call fills a report of eight numbers: the answer's number, its place, its size, the label's offset, its length and its
+// family, the style of the line ends, and zero. A slice is handed over as a pointer and a length.
 ghost use mathlib.Core.Path.{_≡_};
 ghost use lib.ListN.{length};
 ghost use Rattle.reading.specs.Answers.{numberOf};
@@ -44,6 +44,7 @@ fn found_report(number: u64, found: Found, style: u64) -> [u64; 8]
 {
     let size = found.size;
     let label = found.label;
+    let family = found.family;
     let at = label.at;
     [
         number,
@@ -51,7 +52,7 @@ fn found_report(number: u64, found: Found, style: u64) -> [u64; 8]
         size.0 as u64,
         at.0 as u64,
         label.length as u64,
-        0,
+        family.0 as u64,
         style,
         0,
     ]
@@ -145,8 +146,8 @@ pub extern "C" fn zullifern_label(text: &[u8], grammar: u32, report: &mut [u64; 
 }
 
 // Indexes a text that is to be a bundle of the grammar of this number, and answers the number. After 0 the table holds the
-// count, five numbers for each message (start, length, label offset, label length, data size) and then zeros, after anything
-// else zeros only, whatever it held before.
+// count, six numbers for each message (start, length, label offset, label length, data size, family) and then zeros, after
+// anything else zeros only, whatever it held before.
 #[no_mangle]
 pub extern "C" fn zullifern_index(
     text: &[u8],

@@ -1,4 +1,4 @@
--- `index::put_entry` meets its contract: five stores in a row put the numbers of a message in their place. Assumes nothing.
+-- `index::put_entry` meets its contract: six stores in a row put the numbers of a message in their place. Assumes nothing.
 use mathlib.Core.Path.{_≡_, _∙_}
 use mathlib.Core.List.{List, [], _∷_, _++_, append-assoc}
 use Prim.Native.Nat.{ℕ, suc, _+_, _≤_, _<_}
@@ -13,26 +13,28 @@ use Rattle.indexing.specs.declared.Entry.{Entry}
 use Rattle.index.proofs.put_entry.Statement.{statement}
 use Rattle.index.proofs.put_entry.Tie as tie
 
--- Five stores in a row.
-five-sets : (l : List ℕ) (at a b c d e : ℕ) → at + 5 ≤ length l
-    → set (set (set (set (set l at a) (at + 1) b) (at + 2) c) (at + 3) d) (at + 4) e
-    ≡ take at l ++ ((a ∷ b ∷ c ∷ d ∷ e ∷ []) ++ drop (at + 5) l)
-five-sets l at a b c d e h =
+-- The stores in a row.
+entry-sets : (l : List ℕ) (at a b c d e f : ℕ) → at + 6 ≤ length l
+    → set (set (set (set (set (set l at a) (at + 1) b) (at + 2) c) (at + 3) d) (at + 4) e) (at + 5) f
+    ≡ take at l ++ ((a ∷ b ∷ c ∷ d ∷ e ∷ f ∷ []) ++ drop (at + 6) l)
+entry-sets l at a b c d e f h =
     let one : at + 1 ≡ suc at = omega arith in
     let two : at + 2 ≡ suc (suc at) = omega arith in
     let three : at + 3 ≡ suc (suc (suc at)) = omega arith in
     let four : at + 4 ≡ suc (suc (suc (suc at))) = omega arith in
-    rw (one, two, three, four) (sets-eq (a ∷ b ∷ c ∷ d ∷ e ∷ []) l at h ∙ append-assoc (take at l) (a ∷ b ∷ c ∷ d ∷ e ∷ []) (drop (at + 5) l))
+    let five : at + 5 ≡ suc (suc (suc (suc (suc at)))) = omega arith in
+    let entry = a ∷ b ∷ c ∷ d ∷ e ∷ f ∷ [] in
+    rw (one, two, three, four, five) (sets-eq entry l at h ∙ append-assoc (take at l) entry (drop (at + 6) l))
 
 -- A table with no room stays as it is.
-no-room : (l : List ℕ) (at count : ℕ) (e : Entry) → at ≡ sizeFor count → length l < at + 5 → l ≡ entered l count e
+no-room : (l : List ℕ) (at count : ℕ) (e : Entry) → at ≡ sizeFor count → length l < at + entryNumbers → l ≡ entered l count e
 no-room l at count e s h =
     let small : length l < sizeFor count + entryNumbers = omega arith in
     rw (lt-ltb _ _ small)
 
 -- A table with room gets the numbers.
-with-room : (l : List ℕ) (at count : ℕ) (e : Entry) → at ≡ sizeFor count → at + 5 ≤ length l
-    → take at l ++ (numbersOf e ++ drop (at + 5) l) ≡ entered l count e
+with-room : (l : List ℕ) (at count : ℕ) (e : Entry) → at ≡ sizeFor count → at + entryNumbers ≤ length l
+    → take at l ++ (numbersOf e ++ drop (at + entryNumbers) l) ≡ entered l count e
 with-room l at count e s h =
     let room : sizeFor count + entryNumbers ≤ length l = omega arith in
     rw (le-ltb _ _ room, s)
@@ -105,15 +107,24 @@ mul-table-5 c = search needs
 slice-write-table-5 : tie.Need-slice-write-table-5
 slice-write-table-5 c = simp length-set (omega arith)
 
+add-table-5 : tie.Need-add-table-5
+add-table-5 c = search needs
+
+mul-table-6 : tie.Need-mul-table-6
+mul-table-6 c = search needs
+
+slice-write-table-6 : tie.Need-slice-write-table-6
+slice-write-table-6 c = simp length-set (omega arith)
+
 same-length : tie.Need-same-length
-same-length c = search needs
+same-length c = search needs depth 8
 
 returns-2 : tie.Need-returns-2
 returns-2 c =
-    let roomy = c .before .before .before .before .before .before .before .before .before .before .before in
+    let roomy = c .before .before .before .before .before .before .before .before .before .before .before .before in
     let start = roomy .before .before .before in
     let table = start .args .table .now in
-    five-sets table _ _ _ _ _ _ (roomy .if1 .left)
+    entry-sets table _ _ _ _ _ _ _ (roomy .if1 .left)
     ∙ with-room table _ (start .args .count) (start .args .entry) (roomy .before .size-for .ensures) (roomy .if1 .left)
 
 pub put-entry-spec : {M : Type 1} → statement M
@@ -142,5 +153,8 @@ put-entry-spec =
     add-table-4
     mul-table-5
     slice-write-table-5
+    add-table-5
+    mul-table-6
+    slice-write-table-6
     same-length
     returns-2)

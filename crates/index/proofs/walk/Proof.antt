@@ -6,12 +6,12 @@ use Prim.Native.Nat.{ℕ, _+_, _-_, _≤_, _<_}
 use native.Mathlib.Omega.{arith}
 use lib.ListN.{length}
 use borrow.Author.Needs.{needs}
-use Rattle.base64.specs.declared.ByteCount.{ByteCount}
 use Rattle.grammar.specs.declared.Grammar.{Grammar}
 use Rattle.grammar.specs.declared.LineStyle.{LineStyle}
 use Rattle.machine.proofs.Machine.{later}
 use Rattle.machine.specs.declared.State.{State}
 use Rattle.reading.specs.Limits.{textLimit}
+use Rattle.reading.specs.declared.Found.{Found}
 use Rattle.reading.specs.declared.Judgement.{Judgement}
 use Rattle.reading.specs.declared.Judgement.the-variants.{Sound}
 use Rattle.reading.specs.declared.Layout.{Layout}
@@ -35,35 +35,35 @@ judged g text first at s j k scanned same told = sym (ap (judgedMessage g text a
 
 -- What a turn has to know of a message that passed.
 entry-fits : {g : Grammar} {text : List ℕ} {first : State} {at count : ℕ} {table : List ℕ} → Reached g text first at count table → at < length text → length text ≤ textLimit
-    → (s : Scan) → s ≡ scanFrom g text at first → (l : Layout) (size : ByteCount) (style : LineStyle) → judgedMessage g text at (scanFrom g text at first) ≡ Sound l size style
-    → Holdable (entryIn at (s .length) l size) × (0 < s .length) × (at + s .length ≤ length text)
-entry-fits {g} {text} {first} {at} reached h short s scanned l size style sound =
-    rw scanned (sound-holdable g text at first (reached .isStart) (reached .within) short l size style sound)
+    → (s : Scan) → s ≡ scanFrom g text at first → (l : Layout) (found : Found) (style : LineStyle) → judgedMessage g text at (scanFrom g text at first) ≡ Sound l found style
+    → Holdable (entryIn at (s .length) found) × (0 < s .length) × (at + s .length ≤ length text)
+entry-fits {g} {text} {first} {at} reached h short s scanned l found style sound =
+    rw scanned (sound-holdable g text at first (reached .isStart) (reached .within) short l found style sound)
 
 -- What a turn leaves behind a message that passed.
 turned : {g : Grammar} {text : List ℕ} {first : State} {at count : ℕ} {table : List ℕ} → Reached g text first at count table → at < length text
-    → (s : Scan) → s ≡ scanFrom g text at first → (l : Layout) (size : ByteCount) (style : LineStyle) → judgedMessage g text at (scanFrom g text at first) ≡ Sound l size style
-    → (e : Entry) → e ≡ entryIn at (s .length) l size → (next : State) → next ≡ later → (t : List ℕ) → t ≡ entered table count e
+    → (s : Scan) → s ≡ scanFrom g text at first → (l : Layout) (found : Found) (style : LineStyle) → judgedMessage g text at (scanFrom g text at first) ≡ Sound l found style
+    → (e : Entry) → e ≡ entryIn at (s .length) found → (next : State) → next ≡ later → (t : List ℕ) → t ≡ entered table count e
     → Reached g text next (at + s .length) (count + 1) t
-turned reached h s scanned l size style sound e entry next start t filled =
-    rw (filled, entry, start, scanned) (reached-next reached h l size style sound)
+turned reached h s scanned l found style sound e entry next start t filled =
+    rw (filled, entry, start, scanned) (reached-next reached h l found style sound)
 
-abbrev in-turn : tie.After-layout Inv-loop μ-loop → tie.In-loop Inv-loop μ-loop
+abbrev in-turn : tie.After-found Inv-loop μ-loop → tie.In-loop Inv-loop μ-loop
 in-turn c = c .before .before .before .before
 
 abbrev began : tie.In-loop Inv-loop μ-loop → tie.Start Inv-loop μ-loop
 began c = c .before .before .before .before .before
 
 -- The message of a turn passed.
-sound : (c : tie.After-layout Inv-loop μ-loop)
+sound : (c : tie.After-found Inv-loop μ-loop)
     → judgedMessage (began (in-turn c) .args .grammar) (began (in-turn c) .args .text .now) (in-turn c .before .loop .at)
     (scanFrom (began (in-turn c) .args .grammar) (began (in-turn c) .args .text .now) (in-turn c .before .loop .at) (in-turn c .before .loop .first))
-    ≡ Sound (c .layout .given .0 .0) (c .layout .given .0 .1 .0) (c .layout .given .0 .1 .1 .0)
-sound c = judged _ _ _ _ _ _ _ (c .before .before .before .scan-text .ensures) (c .before .before .judge-message .ensures) (c .layout .given .1)
+    ≡ Sound (c .found .given .0 .0) (c .found .given .0 .1 .0) (c .found .given .0 .1 .1 .0)
+sound c = judged _ _ _ _ _ _ _ (c .before .before .before .scan-text .ensures) (c .before .before .judge-message .ensures) (c .found .given .1)
 
 -- So its numbers can be held, and its end is further on in the text.
-fits : (c : tie.After-layout Inv-loop μ-loop)
-    → Holdable (entryIn (in-turn c .before .loop .at) (c .before .before .before .scan-text .result .length) (c .layout .given .0 .0) (c .layout .given .0 .1 .0))
+fits : (c : tie.After-found Inv-loop μ-loop)
+    → Holdable (entryIn (in-turn c .before .loop .at) (c .before .before .before .scan-text .result .length) (c .found .given .0 .1 .0))
     × (0 < c .before .before .before .scan-text .result .length)
     × (in-turn c .before .loop .at + c .before .before .before .scan-text .result .length ≤ length (began (in-turn c) .args .text .now))
 fits c =
@@ -85,17 +85,14 @@ judge-message-requires c κs =
     let reached = c .before .before .loop .inv .1 in
     (began (c .before) .pre .0, record { first = c .before .before .loop .first; isStart = reached .isStart; within = reached .within; scanned = c .scan-text .ensures })
 
-enum-known-layout : tie.Need-enum-known-layout Inv-loop μ-loop
-enum-known-layout c = search needs
-
-entry-in-requires : tie.Need-entry-in-requires Inv-loop μ-loop
-entry-in-requires c κs = search needs
+enum-known-found : tie.Need-enum-known-found Inv-loop μ-loop
+enum-known-found c = search needs
 
 put-entry-requires : tie.Need-put-entry-requires Inv-loop μ-loop
 put-entry-requires c κs =
-    let told = c .before .before .before in
+    let told = c .before .before in
     let reached = in-turn told .before .loop .inv .1 in
-    (omega (arith, reached .few, reached .within, began (in-turn told) .pre .1), rw (c .entry-in .ensures) (fits told .0))
+    (omega (arith, reached .few, reached .within, began (in-turn told) .pre .1), fits told .0)
 
 enum-known-refusal : tie.Need-enum-known-refusal Inv-loop μ-loop
 enum-known-refusal c = search needs
@@ -119,23 +116,23 @@ later-requires c κs = search needs
 
 add-at : tie.Need-add-at Inv-loop μ-loop
 add-at c =
-    let told = c .before .before .before .before .before .before .before in
+    let told = c .before .before .before .before .before .before in
     omega (arith, fits told .2, began (in-turn told) .good)
 
 add-count : tie.Need-add-count Inv-loop μ-loop
 add-count c =
-    let told = c .before .before .before .before .before .before .before in
+    let told = c .before .before .before .before .before .before in
     let reached = in-turn told .before .loop .inv .1 in
     omega (arith, reached .few, reached .within, began (in-turn told) .pre .1)
 
 loop-less : tie.Need-loop-less Inv-loop μ-loop
 loop-less c =
-    let told = c .before .before .before .before .before .before .before in
+    let told = c .before .before .before .before .before .before in
     omega (arith, fits told .1, fits told .2)
 
 loop-again : tie.Need-loop-again Inv-loop μ-loop
 loop-again c =
-    let told = c .before .before .before .before .before .before .before in
+    let told = c .before .before .before .before .before .before in
     let in-loop = in-turn told in
     let put = c .before .before .before in (
       put .put-entry .kept .0 ∙ in-loop .before .loop .inv .0,
@@ -149,7 +146,7 @@ loop-again c =
           _
           (sound told)
           _
-          (put .before .entry-in .ensures)
+          refl
           _
           (c .later .ensures)
           _
@@ -172,8 +169,7 @@ walk-spec =
     loop-holds
     scan-text-requires
     judge-message-requires
-    enum-known-layout
-    entry-in-requires
+    enum-known-found
     put-entry-requires
     enum-known-refusal
     same-length

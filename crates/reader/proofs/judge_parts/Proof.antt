@@ -1,11 +1,10 @@
 -- `reader::judge_parts` meets its contract: the code's checks are those of `judgedParts`. Assumes nothing.
-use mathlib.Core.Path.{_≡_, ap}
+use mathlib.Core.Path.{_≡_}
 use mathlib.Core.Bool.{true, false}
 use lib.Dec.{ltb}
 use borrow.Author.Tests.{lt-ltb, le-ltb}
 use borrow.Author.Needs.{needs}
 use Rattle.reading.specs.Limits.{labelLimit}
-use Rattle.reading.specs.Answers.{byteCount}
 use Rattle.reading.specs.Read.{labelsAgree, countsFit, spareClear}
 use Rattle.reading.proofs.Checks.{check-passed, check-failed}
 use Rattle.reader.proofs.judge_parts.Statement.{statement}
@@ -59,16 +58,15 @@ returns-4 c =
       check-failed (c .before .before .before .before .before .spare-clear .ensures) (c .before .before .before .before .if4 .taken),
     )
 
-decoded-count-requires : tie.Need-decoded-count-requires
-decoded-count-requires c κs = search needs
+found-in-requires : tie.Need-found-in-requires
+found-in-requires c κs = search needs
 
 counted-style-requires : tie.Need-counted-style-requires
 counted-style-requires c κs = search needs
 
 returns-5 : tie.Need-returns-5
 returns-5 c =
-    let size : c .before .decoded-count .result ≡ byteCount _ = ap byteCount (c .before .decoded-count .ensures) in
-    rw (short (c .before .before .before .before .before .before .before .before .before), agreed (c .before .before .before .before .before .before .before), fitted (c .before .before .before .before .before), cleared (c .before .before .before), size, c .counted-style .ensures)
+    rw (short (c .before .before .before .before .before .before .before .before .before), agreed (c .before .before .before .before .before .before .before), fitted (c .before .before .before .before .before), cleared (c .before .before .before), c .before .found-in .ensures, c .counted-style .ensures)
 
 pub judge-parts-spec : {M : Type 1} → statement M
 judge-parts-spec =
@@ -82,6 +80,6 @@ judge-parts-spec =
     spare-clear-requires
     add-t20
     returns-4
-    decoded-count-requires
+    found-in-requires
     counted-style-requires
     returns-5)

@@ -79,7 +79,7 @@ returns-2 c =
     let told = c .before .before .before .before .before .before .before .before .before in
     let a = start (told .before .before) .args in
     let size = passed (told .before .before) .scan-decoding .ensures .1 in
-    let small = lt-ltb (length (a .out .now)) (told .layout .given .0 .1 .0 .0) (omega (arith, c .before .before .before .before .if2 .taken, size)) in
+    let small = lt-ltb (length (a .out .now)) (told .layout .given .0 .1 .0 .size .0) (omega (arith, c .before .before .before .before .if2 .taken, size)) in
     answer-judged (a .grammar) (a .text .now) (length (a .out .now)) _ (judged-sound told) _ _ (rw small) (c .before .before .clear2 .ensures ∙ rw (size, small))
 
 put-body-requires : tie.Need-put-body-requires
@@ -106,7 +106,7 @@ returns-3 c =
     let a = start (told .before .before) .args in
     let size = passed (told .before .before) .scan-decoding .ensures .1 in
     let sound = known-fits (a .grammar) (a .text .now) (told .layout .given .0 .0) (told .layout .given .0 .1 .0) (told .layout .given .0 .1 .1 .0) (judged-sound told) in
-    let room = le-ltb (length (a .out .now)) (told .layout .given .0 .1 .0 .0) (omega (arith, c .before .before .before .before .before .before .if2 .left, size)) in
+    let room = le-ltb (length (a .out .now)) (told .layout .given .0 .1 .0 .size .0) (omega (arith, c .before .before .before .before .before .before .if2 .left, size)) in
     answer-judged (a .grammar) (a .text .now) (length (a .out .now)) _ (judged-sound told) _ _ (rw room) (c .before .before .put-body .ensures ∙ rw (room, size, sound .2))
 
 same-length-4 : tie.Need-same-length-4

@@ -13,7 +13,7 @@ use Rattle.zullifern.proofs.zullifern_label.Statement.{statement}
 use Rattle.zullifern.proofs.zullifern_label.Tie as tie
 
 reported-label : (text : List ℕ) (j : Judgement) → labelIn j text ≡ reportedPart text (judgedReport j)
-reported-label text (Sound l size style) = refl
+reported-label text (Sound l found style) = refl
 reported-label text (Refused r) = refl
 
 -- The report of a label's part names what is handed back.
