@@ -1,12 +1,12 @@
 use core::fmt;
 
-use crate::{label_at, ENTRY_NUMBERS};
+use crate::{family_of, label_at, Family, ENTRY_NUMBERS};
 
 /// The index of a bundle: what each message is and where it stands.
 #[derive(Clone, Copy, PartialEq, Eq)]
 pub struct Index<'t, 'n> {
     pub(crate) text: &'t [u8],
-    /// The count, and then five numbers for each message.
+    /// The count, and then six numbers for each message.
     pub(crate) table: &'n [u32],
 }
 
@@ -23,6 +23,8 @@ pub struct Entry<'t> {
     pub label_offset: usize,
     /// How many bytes its data have.
     pub data_size: usize,
+    /// Which family its label is of.
+    pub family: Family,
 }
 
 impl<'t, 'n> Index<'t, 'n> {
@@ -46,6 +48,7 @@ impl<'t, 'n> Index<'t, 'n> {
             label: label_at(self.text, label_offset, label_length),
             label_offset,
             data_size,
+            family: family_of(numbers[5]),
         })
     }
 
@@ -54,7 +57,8 @@ impl<'t, 'n> Index<'t, 'n> {
         Entries { index: *self, next: 0 }
     }
 
-    /// The numbers of the index: the count, and for each message its start, length, label offset, label length and data size.
+    /// The numbers of the index: the count, and for each message its start, length, label offset, label length, data size and
+    /// family.
     pub fn table(&self) -> &'n [u32] {
         self.table
     }

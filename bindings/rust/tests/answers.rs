@@ -1,6 +1,6 @@
 //! Every answer of the four calls, as the package gives it, and the text that a person reads.
 
-use zullifern::{Grammar, LineEnding, LineStyle, Place, Refusal, WriteRefusal};
+use zullifern::{Family, Grammar, LineEnding, LineStyle, Place, Refusal, WriteRefusal};
 
 const M: &str = "-----BEGIN A-----\nZg==\n-----END A-----\n";
 
@@ -99,11 +99,11 @@ fn index_counts_places_in_the_whole_bundle() {
         }
     );
     let found = index_refusal(&M.repeat(2), Grammar::Strict);
-    assert_eq!(found, Refusal::TableTooSmall { needed: 11 });
+    assert_eq!(found, Refusal::TableTooSmall { needed: 13 });
     assert_eq!(found.number(), 10);
     assert_eq!(
         found.to_string(),
-        "the lent table is too small: the index needs 11 numbers"
+        "the lent table is too small: the index needs 13 numbers"
     );
 }
 
@@ -174,8 +174,8 @@ fn index_lists_messages_in_order() {
     );
     assert_eq!((entries[1].text.len(), entries[1].data_size), (text.len() - 39, 3));
     assert_eq!(index.get(2), None);
-    assert_eq!(index.table(), [2, 0, 39, 11, 1, 1, 39, 67, 50, 15, 3]);
-    assert_eq!(table[11..], [0; 9]);
+    assert_eq!(index.table(), [2, 0, 39, 11, 1, 1, 0, 39, 67, 50, 15, 3, 0]);
+    assert_eq!(table[13..], [0; 7]);
 }
 
 #[test]
@@ -302,6 +302,97 @@ fn what_is_written_has_the_line_ends_asked_for() {
     }
 }
 
+/// Labels of each family: the one of RFC 7468, and the older ones.
+const FAMILIES: [(&str, Family); 12] = [
+    ("CERTIFICATE", Family::Certificate),
+    ("X509 CRL", Family::X509Crl),
+    ("CERTIFICATE REQUEST", Family::CertificateRequest),
+    ("PKCS7", Family::Pkcs7),
+    ("CMS", Family::Cms),
+    ("PRIVATE KEY", Family::PrivateKey),
+    ("ENCRYPTED PRIVATE KEY", Family::EncryptedPrivateKey),
+    ("ATTRIBUTE CERTIFICATE", Family::AttributeCertificate),
+    ("PUBLIC KEY", Family::PublicKey),
+    ("X509 CERTIFICATE", Family::Certificate),
+    ("X.509 CERTIFICATE", Family::Certificate),
+    ("NEW CERTIFICATE REQUEST", Family::CertificateRequest),
+];
+
+/// Labels that are no known one, though some look like it.
+const OTHER_LABELS: [&str; 12] = [
+    "",
+    "A",
+    "CRL",
+    "CERTIFICATE CHAIN",
+    "TRUSTED CERTIFICATE",
+    "RSA PRIVATE KEY",
+    "certificate",
+    "Certificate",
+    "CERTIFICATES",
+    "CERTIFICAT",
+    "X509-CRL",
+    "NEW X509 CERTIFICATE",
+];
+
+fn labelled(label: &str) -> String {
+    M.replace('A', label)
+}
+
+#[test]
+fn read_and_index_tell_the_family() {
+    let others = OTHER_LABELS.map(|label| (label, Family::Other));
+    let rows = [FAMILIES, others].concat();
+    for &(label, family) in &rows {
+        let text = labelled(label);
+        for grammar in Grammar::ALL {
+            let mut out = [0; 1];
+            let message = zullifern::read(text.as_bytes(), grammar, &mut out).unwrap();
+            assert_eq!((message.label, message.family), (label, family));
+        }
+    }
+    let bundle: String = rows.iter().map(|(label, _)| labelled(label)).collect();
+    let mut table = vec![7; zullifern::table_size(rows.len())];
+    let index = zullifern::index(bundle.as_bytes(), Grammar::Strict, &mut table).unwrap();
+    let found: Vec<_> = index.iter().map(|entry| (entry.label, entry.family)).collect();
+    assert_eq!(found, rows);
+}
+
+#[test]
+fn labels_of_one_family_differ_nevertheless() {
+    let text = labelled("CERTIFICATE").replace("BEGIN CERT", "BEGIN X509 CERT");
+    let differ = Refusal::LabelsDiffer {
+        place: place(47, 3, 10, false),
+    };
+    assert_eq!(read_refusal(&text, Grammar::Strict), differ);
+}
+
+#[test]
+fn families_have_numbers_names_and_labels() {
+    for (number, family) in (0..).zip(Family::ALL) {
+        assert_eq!(family.number(), number);
+        assert_eq!(Family::try_from(number), Ok(family));
+    }
+    for (label, family) in &FAMILIES[..9] {
+        assert_eq!((family.label(), family.to_string().as_str()), (Some(*label), *label));
+    }
+    assert_eq!((Family::Other.label(), Family::Other.name()), (None, "other"));
+    let unknown = Family::try_from(10).unwrap_err();
+    assert_eq!(
+        unknown.to_string(),
+        "unknown family of labels: it is other (0) or one of figure 4 in RFC 7468 (1 to 9)"
+    );
+    assert!(Family::try_from(257).is_err() && Family::try_from(u32::MAX).is_err());
+}
+
+#[cfg(feature = "alloc")]
+#[test]
+fn a_message_of_its_own_has_the_family_too() {
+    for (label, family) in FAMILIES {
+        let message = zullifern::owned::read(labelled(label).as_bytes(), Grammar::Lax).unwrap();
+        assert_eq!((message.label.as_str(), message.family), (label, family));
+    }
+}
+
 #[test]
 fn line_ends_have_numbers_and_names() {
     for ending in LineEnding::ALL {
@@ -384,6 +475,7 @@ fn a_chain_of_certificates_is_read_whole_and_written_again() {
         [536, 468, 464]
     );
     assert!(messages.iter().all(|message| message.style == LineEnding::Lf.into()));
+    assert!(messages.iter().all(|message| message.family == Family::Certificate));
     assert_eq!(written_again(&messages), chain);
     let torn = &chain.as_bytes()[..chain.len() - 1];
     assert_eq!(

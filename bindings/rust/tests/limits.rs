@@ -31,7 +31,7 @@ fn text_and_its_data() {
 
 #[test]
 fn text_and_its_table() {
-    assert_eq!(TABLE_LIMIT, 2_796_201);
+    assert_eq!(TABLE_LIMIT, 3_355_441);
     let mut most = b"-----BEGIN ----------END -----".repeat(MOST_MESSAGES);
     most.resize(TEXT_LIMIT, b' ');
     let mut table = vec![7; TABLE_LIMIT];

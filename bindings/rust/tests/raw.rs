@@ -1,14 +1,15 @@
 //! The calls of the package against the raw ones, on every start and many damages of a small bundle: the same number, place,
-//! size, label, line ends and bytes, and no call stops.
+//! size, label, family, line ends and bytes, and no call stops.
 
 use zullifern::raw::{self, Report};
 use zullifern::{Grammar, LineEnding, Refusal, WriteRefusal};
 
-const BUNDLE: &[u8] = b"-----BEGIN A-----\nZg==\n-----END A-----\n-----BEGIN B C-----\r\nZm9v\r-----END B C-----\n";
+const BUNDLE: &[u8] =
+    b"-----BEGIN A-----\nZg==\n-----END A-----\n-----BEGIN X509 CRL-----\r\nZm9v\r-----END X509 CRL-----\n";
 const MESSAGE: usize = 39;
 /// Bytes of each kind that the grammars know, and some that they do not.
 const DAMAGES: &[u8] = b"\0\t\n\x0b\x0c\r !+-/09=AEZagz~\x7f\x80\xff";
-const ROOMS: [usize; 4] = [0, 1, 6, 40];
+const ROOMS: [usize; 4] = [0, 1, 7, 40];
 
 /// The text with a byte in place of another, with one more, and without one.
 fn damaged(text: &[u8]) -> impl Iterator<Item = Vec<u8>> + '_ {
@@ -32,15 +33,18 @@ fn texts() -> Vec<Vec<u8>> {
     let others = [long_label.concat(), vec![b' '; zullifern::TEXT_LIMIT + 1]];
     starts
         .chain(damaged(&BUNDLE[..MESSAGE]))
+        .chain(damaged(&BUNDLE[MESSAGE..]))
+        .chain([BUNDLE[MESSAGE..].to_vec()])
         .chain(damaged(BUNDLE))
         .chain(others)
         .collect()
 }
 
-/// The refusal has the number and the place of the report, or what 10 needs. No style is told.
+/// The refusal has the number and the place of the report, or what 10 needs. No style is told, and a family only with a label.
 fn same_refusal(refusal: Refusal, report: &Report) {
     assert_eq!(u64::from(refusal.number()), report.number);
     assert_eq!(report.style, 0);
+    assert!(report.family == 0 || (report.number == 10 && report.label_length > 0));
     assert_eq!(refusal.place().map_or(0, |place| place.offset as u64), report.place);
     if let Refusal::OutputTooSmall { needed } | Refusal::TableTooSmall { needed } = refusal {
         assert_eq!(needed as u64, report.size);
@@ -55,6 +59,7 @@ fn try_read(text: &[u8], grammar: Grammar, room: usize) {
             assert_eq!(report.number, 0);
             assert_eq!(message.data, &plain[..report.size as usize]);
             assert_eq!(u64::from(message.style.number()), report.style);
+            assert_eq!(u64::from(message.family.number()), report.family);
             assert_eq!(
                 (message.label_offset, message.label.len()),
                 (report.label_offset as usize, report.label_length as usize)
@@ -78,6 +83,8 @@ fn try_index(text: &[u8], grammar: Grammar, room: usize) {
         Ok(index) => {
             assert_eq!((report.number, index.table()), (0, &plain[..report.size as usize]));
             assert_eq!(index.iter().count(), plain[0] as usize);
+            let families = index.iter().map(|entry| entry.family.number());
+            assert!(families.eq(plain[1..].chunks_exact(6).take(index.len()).map(|entry| entry[5])));
             let lengths: usize = index.iter().map(|entry| entry.text.len()).sum();
             assert_eq!(lengths, text.len(), "the messages fill the text");
         }
@@ -130,6 +137,20 @@ fn write_answers_as_the_raw_call_does() {
         for size in [zullifern::DATA_LIMIT, zullifern::DATA_LIMIT + 1] {
             try_write(&label, &vec![0x5A; size], LineEnding::CrLf, 60);
         }
+    }
+}
+
+/// What the package leaves to the index: the raw read tells the family where the output is too small as well.
+#[test]
+fn the_family_is_told_without_room() {
+    for (room, number) in [(0, 10), (2, 10), (3, 0)] {
+        let (mut out, mut report) = (vec![0xAA; room], Report::default());
+        assert_eq!(raw::read(&BUNDLE[MESSAGE..], 3, &mut out, &mut report), number);
+        assert_eq!((report.family, report.label_offset, report.label_length), (2, 11, 8));
+        raw::label(&BUNDLE[MESSAGE..], 3, &mut report);
+        assert_eq!((report.family, report.label_length), (0, 8));
+        raw::index(&BUNDLE[MESSAGE..], 3, &mut [0; 7], &mut report);
+        assert_eq!((report.number, report.family), (0, 0));
     }
 }
 
