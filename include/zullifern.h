@@ -41,6 +41,23 @@ enum zullifern_style {
     ZULLIFERN_MIXED_LINE_ENDS = 4 /* told only: there are some of more than one kind */
 };
 
+/*
+ * Families of labels, what the read and index calls tell of a message: the nine labels of RFC 7468, figure 4, in its order, and
+ * all others. Labels are compared byte for byte, so case counts, and a label that only begins with a known one is another.
+ */
+enum zullifern_family {
+    ZULLIFERN_OTHER_LABEL = 0,           /* any other, the empty one too: so are CRL and CERTIFICATE CHAIN */
+    ZULLIFERN_CERTIFICATE = 1,           /* CERTIFICATE, and the older X509 CERTIFICATE and X.509 CERTIFICATE */
+    ZULLIFERN_X509_CRL = 2,              /* X509 CRL */
+    ZULLIFERN_CERTIFICATE_REQUEST = 3,   /* CERTIFICATE REQUEST, and the older NEW CERTIFICATE REQUEST */
+    ZULLIFERN_PKCS7 = 4,                 /* PKCS7 */
+    ZULLIFERN_CMS = 5,                   /* CMS */
+    ZULLIFERN_PRIVATE_KEY = 6,           /* PRIVATE KEY: PKCS #8, not that of one algorithm as RSA PRIVATE KEY */
+    ZULLIFERN_ENCRYPTED_PRIVATE_KEY = 7, /* ENCRYPTED PRIVATE KEY */
+    ZULLIFERN_ATTRIBUTE_CERTIFICATE = 8, /* ATTRIBUTE CERTIFICATE */
+    ZULLIFERN_PUBLIC_KEY = 9             /* PUBLIC KEY */
+};
+
 /* The numbers that a call may answer. Readers check in the order 1 to 10, the writer 11 to 14, then 20 and then 10. */
 enum zullifern_number {
     ZULLIFERN_ACCEPTED = 0,
@@ -67,7 +84,7 @@ enum zullifern_number {
 #define ZULLIFERN_DATA_LIMIT 8388608
 
 /* How many numbers of a table belong to one message, and how many the table of so many messages has. */
-#define ZULLIFERN_ENTRY_NUMBERS 5
+#define ZULLIFERN_ENTRY_NUMBERS 6
 #define ZULLIFERN_TABLE_SIZE(count) (1 + ZULLIFERN_ENTRY_NUMBERS * (size_t)(count))
 
 /* The bytes of the shortest message: both boundaries with an empty label and nothing between them, which lax takes. */
@@ -89,7 +106,7 @@ enum zullifern_number {
 
 /*
  * The same at the limits: room for the data of any text, 12,582,912 bytes, for any text that is written, 11,534,500 bytes (at
- * most 11,359,735 with LF or CR), and for any table, 2,796,201 numbers (of 559,240 messages). Buffers of these sizes belong on
+ * most 11,359,735 with LF or CR), and for any table, 3,355,441 numbers (of 559,240 messages). Buffers of these sizes belong on
  * no stack. Each call writes the whole of what it is lent, so rather lend what your own input needs, by the above.
  */
 #define ZULLIFERN_READ_LIMIT ZULLIFERN_READ_BOUND(ZULLIFERN_TEXT_LIMIT)
@@ -103,7 +120,7 @@ struct zullifern_report {
     uint64_t size;         /* what the result needs for 0 and 10, else 0: bytes, or numbers of the table */
     uint64_t label_offset; /* read and label: where the opening label starts in the text */
     uint64_t label_length; /* read and label: its length; both are 0 unless the text passed the checks 1 to 9 */
-    uint64_t reserved5;    /* 0 */
+    uint64_t family;       /* read: a zullifern_family, 0 unless the number is 0 or 10 */
     uint64_t style;        /* read: a zullifern_style, 0 unless the number is 0 */
     uint64_t reserved7;    /* 0 */
 };
@@ -115,18 +132,21 @@ struct zullifern_entry {
     uint32_t label_offset;
     uint32_t label_length;
     uint32_t data_size;
+    uint32_t family; /* a zullifern_family */
 };
 
 /*
  * Reads one message that fills the whole text, and answers 0 to 10. After 0 the data are the first report->size bytes of out,
- * the label is the part of the text that the report tells, and report->style is which line ends the text has.
+ * the label is the part of the text that the report tells, report->family is its family, and report->style is which line ends
+ * the text has. After 10 label and family are told too.
  */
 uint32_t zullifern_read(const uint8_t *text, size_t text_length, uint32_t grammar, uint8_t *out, size_t out_length,
                         struct zullifern_report *report);
 
 /*
- * Reports which part of the text is the opening label of the one message that fills it. Where one of the checks 1 to 9 refuses
- * the text its length is 0, as it is for an empty label: the read call tells them apart. It answers 0 always.
+ * Reports which part of the text is the opening label of the one message that fills it, and nothing else. Where one of the
+ * checks 1 to 9 refuses the text its length is 0, as it is for an empty label: the read call tells them apart. It answers 0
+ * always.
  */
 uint32_t zullifern_label(const uint8_t *text, size_t text_length, uint32_t grammar, struct zullifern_report *report);
 

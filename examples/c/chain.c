@@ -12,8 +12,6 @@
 
 #include "zullifern.h"
 
-static const char CERTIFICATE[] = "CERTIFICATE";
-
 /* The longest chain that this program takes, in bytes, and what it needs for any chain of this length. */
 #define CHAIN_LIMIT 65536
 #define TABLE_NUMBERS ZULLIFERN_TABLE_BOUND(CHAIN_LIMIT)
@@ -56,17 +54,11 @@ static int refused(uint64_t number, uint64_t place)
     return 1;
 }
 
-static int is_certificate(const struct zullifern_entry *entry)
-{
-    return entry->label_length == strlen(CERTIFICATE)
-        && memcmp(text + entry->label_offset, CERTIFICATE, strlen(CERTIFICATE)) == 0;
-}
-
 /* Reads the DER of one message and prints a line on it. */
 static int show(unsigned k, const struct zullifern_entry *entry)
 {
     struct zullifern_report report;
-    if (!is_certificate(entry)) {
+    if (entry->family != ZULLIFERN_CERTIFICATE) {
         printf("%u: not a certificate but %.*s\n", k, (int)entry->label_length, (const char *)text + entry->label_offset);
         return 1;
     }

@@ -18,14 +18,43 @@
 #define MOST_MESSAGES 559240
 
 static_assert(sizeof(struct zullifern_report) == 8 * sizeof(uint64_t), "a report is eight numbers");
-static_assert(sizeof(struct zullifern_entry) == ZULLIFERN_ENTRY_NUMBERS * sizeof(uint32_t), "an entry is five numbers");
+static_assert(sizeof(struct zullifern_entry) == ZULLIFERN_ENTRY_NUMBERS * sizeof(uint32_t), "an entry is six numbers");
 static_assert(ZULLIFERN_TEXT_LIMIT == 16777216 && ZULLIFERN_DATA_LIMIT == 8388608, "limits of what comes in");
+static_assert(offsetof(struct zullifern_report, family) == 5 * sizeof(uint64_t), "the family is the report's sixth number");
+static_assert(offsetof(struct zullifern_entry, family) == 5 * sizeof(uint32_t), "the family is an entry's sixth number");
 static_assert(offsetof(struct zullifern_report, style) == 6 * sizeof(uint64_t), "the style is the report's seventh number");
 static_assert(ZULLIFERN_READ_LIMIT == 12582912 && ZULLIFERN_WRITTEN_LIMIT == 11534500, "limits of what is lent");
 static_assert(ZULLIFERN_WRITTEN_SIZE(64, ZULLIFERN_DATA_LIMIT, ZULLIFERN_LF) == 11359735, "the largest text with LF");
 static_assert(ZULLIFERN_WRITTEN_SIZE(64, ZULLIFERN_DATA_LIMIT, ZULLIFERN_CR) == 11359735, "the largest text with CR");
-static_assert(ZULLIFERN_TABLE_LIMIT == 2796201 && ZULLIFERN_TABLE_SIZE(MOST_MESSAGES) == 2796201, "the largest table");
+static_assert(ZULLIFERN_TABLE_LIMIT == 3355441 && ZULLIFERN_TABLE_SIZE(MOST_MESSAGES) == 3355441, "the largest table");
 static_assert(sizeof SHORTEST - 1 == ZULLIFERN_MESSAGE_LEAST, "the shortest message");
+
+/* Labels, and which family each is of: those that RFC 7468 has, older ones, and others. */
+static const struct {
+    const char *label;
+    enum zullifern_family family;
+} LABELS[] = {
+    {"CERTIFICATE", ZULLIFERN_CERTIFICATE},
+    {"X509 CRL", ZULLIFERN_X509_CRL},
+    {"CERTIFICATE REQUEST", ZULLIFERN_CERTIFICATE_REQUEST},
+    {"PKCS7", ZULLIFERN_PKCS7},
+    {"CMS", ZULLIFERN_CMS},
+    {"PRIVATE KEY", ZULLIFERN_PRIVATE_KEY},
+    {"ENCRYPTED PRIVATE KEY", ZULLIFERN_ENCRYPTED_PRIVATE_KEY},
+    {"ATTRIBUTE CERTIFICATE", ZULLIFERN_ATTRIBUTE_CERTIFICATE},
+    {"PUBLIC KEY", ZULLIFERN_PUBLIC_KEY},
+    {"X509 CERTIFICATE", ZULLIFERN_CERTIFICATE},
+    {"X.509 CERTIFICATE", ZULLIFERN_CERTIFICATE},
+    {"NEW CERTIFICATE REQUEST", ZULLIFERN_CERTIFICATE_REQUEST},
+    {"", ZULLIFERN_OTHER_LABEL},
+    {"CRL", ZULLIFERN_OTHER_LABEL},
+    {"CERTIFICATE CHAIN", ZULLIFERN_OTHER_LABEL},
+    {"RSA PRIVATE KEY", ZULLIFERN_OTHER_LABEL},
+    {"certificate", ZULLIFERN_OTHER_LABEL},
+    {"CERTIFICATES", ZULLIFERN_OTHER_LABEL},
+    {"CM", ZULLIFERN_OTHER_LABEL},
+};
+#define LABEL_COUNT (sizeof LABELS / sizeof LABELS[0])
 
 static uint8_t text[ZULLIFERN_TEXT_LIMIT + 1];
 static uint8_t out[ZULLIFERN_READ_LIMIT];
@@ -41,7 +70,7 @@ static void same(const char *what, uint64_t found, uint64_t expected)
     }
 }
 
-/* Reads with enough room, or with none, and looks at all of the report but the size and the label. */
+/* Reads with enough room, or with none, and looks at all of the report but the size and the label, which is in no family. */
 static void reads_as(const char *given, uint32_t grammar, size_t room, uint32_t number, uint64_t place, uint64_t style)
 {
     struct zullifern_report report;
@@ -50,7 +79,7 @@ static void reads_as(const char *given, uint32_t grammar, size_t room, uint32_t 
     same("the report's number", report.number, number);
     same("the report's place", report.place, place);
     same("the report's style", report.style, style);
-    same("the report's reserved numbers", report.reserved5 | report.reserved7, 0);
+    same("the report's family and its reserved number", report.family | report.reserved7, 0);
 }
 
 /* The same for texts whose line ends are LF. On a refusal no style is told. */
@@ -65,7 +94,7 @@ static void writes(const char *label, size_t size, uint32_t style, size_t room, 
     size_t length = strlen(label);
     memset(&report, 0xAA, sizeof report);
     same(label, zullifern_write((const uint8_t *)label, length, data, size, style, out, room, &report), number);
-    same("the report's place and its last numbers", report.place | report.reserved5 | report.style | report.reserved7, 0);
+    same("the report's place and its last numbers", report.place | report.family | report.style | report.reserved7, 0);
     if (number == ZULLIFERN_ACCEPTED || number == ZULLIFERN_NO_ROOM)
         same("the written size", report.size, ZULLIFERN_WRITTEN_SIZE(length, size, style));
 }
@@ -100,14 +129,61 @@ static void styles_of_read(void)
     reads_as(M_WITH("\r\n"), ZULLIFERN_STRICT, 0, ZULLIFERN_NO_ROOM, 0, 0);
 }
 
+/* Puts a message under these labels, and gives its length. */
+static size_t put(uint8_t *at, const char *opening, const char *closing)
+{
+    return (size_t)sprintf((char *)at, "-----BEGIN %s-----\nZg==\n-----END %s-----\n", opening, closing);
+}
+
+static void tells_family(size_t length, uint32_t grammar, size_t room, uint32_t number, uint64_t family)
+{
+    struct zullifern_report report;
+    memset(&report, 0xAA, sizeof report);
+    same("a labelled message", zullifern_read(text, length, grammar, out, room, &report), number);
+    same("its family", report.family, family);
+}
+
+/* It is told with too little room as well, and on no other refusal. Labels of one family differ all the same. */
+static void families_of_read(void)
+{
+    for (size_t k = 0; k < LABEL_COUNT; k++)
+        for (uint32_t grammar = ZULLIFERN_LAX; grammar <= ZULLIFERN_STRICT; grammar++) {
+            size_t length = put(text, LABELS[k].label, LABELS[k].label);
+            tells_family(length, grammar, 1, ZULLIFERN_ACCEPTED, LABELS[k].family);
+            tells_family(length, grammar, 0, ZULLIFERN_NO_ROOM, LABELS[k].family);
+            tells_family(length, 0, 1, ZULLIFERN_UNKNOWN_GRAMMAR, 0);
+            tells_family(length - 6, grammar, 1, ZULLIFERN_CLOSING, 0);
+            length = put(text, LABELS[k].label, LABELS[(k + 9) % LABEL_COUNT].label);
+            tells_family(length, grammar, 1, ZULLIFERN_LABELS_DIFFER, 0);
+        }
+}
+
+static void families_of_index(void)
+{
+    struct zullifern_report report;
+    struct zullifern_entry entry;
+    size_t length = 0;
+    for (size_t k = 0; k < LABEL_COUNT; k++)
+        length += put(text + length, LABELS[k].label, LABELS[k].label);
+    memset(&report, 0xAA, sizeof report);
+    same("a bundle of all labels",
+         zullifern_index(text, length, ZULLIFERN_STRICT, table, ZULLIFERN_TABLE_SIZE(LABEL_COUNT), &report), 0);
+    same("its report's family", report.family, 0);
+    for (size_t k = 0; k < LABEL_COUNT; k++) {
+        memcpy(&entry, table + ZULLIFERN_TABLE_SIZE(k), sizeof entry);
+        same(LABELS[k].label, entry.family, LABELS[k].family);
+        same("its label's length", entry.label_length, strlen(LABELS[k].label));
+    }
+}
+
 static void label_call(void)
 {
     struct zullifern_report report;
     memset(&report, 0xAA, sizeof report);
-    same("the label call", zullifern_label((const uint8_t *)M, strlen(M), ZULLIFERN_STRICT, &report), 0);
+    same("the label call", zullifern_label(text, put(text, "CMS", "CMS"), ZULLIFERN_STRICT, &report), 0);
     same("the label's offset", report.label_offset, 11);
-    same("the label's length", report.label_length, 1);
-    same("its report's last numbers", report.reserved5 | report.style | report.reserved7, 0);
+    same("the label's length", report.label_length, 3);
+    same("its report's last numbers", report.family | report.style | report.reserved7, 0);
 }
 
 static void index_call(void)
@@ -121,7 +197,7 @@ static void index_call(void)
     same("the index call",
          zullifern_index(text, (size_t)(end - text), ZULLIFERN_STRICT, table, ZULLIFERN_TABLE_SIZE(2), &report), 0);
     same("the table's size", report.size, ZULLIFERN_TABLE_SIZE(2));
-    same("its report's last numbers", report.reserved5 | report.style | report.reserved7, 0);
+    same("its report's last numbers", report.family | report.style | report.reserved7, 0);
     same("the count", table[0], 2);
     memcpy(&entry, table + ZULLIFERN_TABLE_SIZE(1), sizeof entry);
     same("the second start", entry.start, 39);
@@ -129,6 +205,7 @@ static void index_call(void)
     same("its label's offset", entry.label_offset, 50);
     same("its label's length", entry.label_length, 1);
     same("its data size", entry.data_size, 1);
+    same("its family", entry.family, ZULLIFERN_OTHER_LABEL);
 }
 
 static void numbers_of_write(void)
@@ -217,8 +294,10 @@ int main(void)
 {
     numbers_of_read();
     styles_of_read();
+    families_of_read();
     label_call();
     index_call();
+    families_of_index();
     numbers_of_write();
     styles_of_write();
     data_at_the_limit();
