@@ -1,7 +1,7 @@
 //! The cases: a call, a grammar and an input for it, as all sides take them.
 
 use crate::library;
-use crate::texts::{self, End, Layout, Messages, Text, LABEL, LABEL_AT, LONG_TEXT, WRITTEN};
+use crate::texts::{self, End, Layout, Messages, Text, FAMILY, LABEL, LABEL_AT, LONG_TEXT, WRITTEN};
 use crate::yardstick::{Message, YARDSTICKS};
 use std::fmt::Debug;
 use std::hint::black_box;
@@ -152,6 +152,7 @@ fn with_read(case: &Case, task: &impl Task) {
     let strict = other.as_ref().unwrap_or(&text);
     let message = || Message {
         label: LABEL_AT..LABEL_AT + LABEL.len(),
+        family: FAMILY,
         size: data.len(),
     };
     let library = Side {

@@ -23,25 +23,25 @@ const MEASURED: &str = "bench_measured";
 const COLLECTED: &str = "Collected :";
 
 /// A case for each length of the text.
-struct Family {
+struct Series {
     name: &'static str,
     case: fn(usize) -> Case,
 }
 
-const FAMILIES: [Family; 4] = [
-    Family {
+const SERIES: [Series; 4] = [
+    Series {
         name: "read, one message",
         case: |text| Case::strict(Call::Read, Messages::One(text)),
     },
-    Family {
+    Series {
         name: "index, one message",
         case: |text| Case::strict(Call::Index, Messages::One(text)),
     },
-    Family {
+    Series {
         name: "index, bundle",
         case: |text| Case::strict(Call::Index, Messages::Bundle(text)),
     },
-    Family {
+    Series {
         name: "write",
         case: |text| Case::strict(Call::Write, Messages::Data(texts::most_data(text).min(DATA_LIMIT))),
     },
@@ -49,10 +49,10 @@ const FAMILIES: [Family; 4] = [
 
 pub fn print_table() -> ExitCode {
     print_head();
-    for family in FAMILIES {
+    for series in SERIES {
         for side in SIDES {
             for length in LENGTHS {
-                if let Err(why) = print_line(family.name, side, length) {
+                if let Err(why) = print_line(series.name, side, length) {
                     eprintln!("{why}");
                     return ExitCode::FAILURE;
                 }
@@ -120,8 +120,8 @@ fn collected(errors: &str) -> Option<usize> {
 /// Calls a side once, as these words say, and prints how many bytes the text has.
 pub fn once(side: &str, name: &str, length: &str) -> Option<()> {
     let side = SIDES.into_iter().position(|one| one == side)?;
-    let family = FAMILIES.into_iter().find(|one| one.name == name)?;
-    cases::with(&(family.case)(length.parse().ok()?), &Once(side));
+    let series = SERIES.into_iter().find(|one| one.name == name)?;
+    cases::with(&(series.case)(length.parse().ok()?), &Once(side));
     Some(())
 }
 

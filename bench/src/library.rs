@@ -11,6 +11,7 @@ pub fn read(text: &[u8], grammar: Grammar, out: &mut [u8]) -> Option<Message> {
     let label = start..start + report.label_length as usize;
     (number == 0).then_some(Message {
         label,
+        family: report.family as u32,
         size: report.size as usize,
     })
 }

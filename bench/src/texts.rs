@@ -1,6 +1,7 @@
 //! The inputs: texts of made-up data, written plainly and apart from both sides that are compared.
 
 pub const LABEL: &[u8] = b"CERTIFICATE";
+pub const FAMILY: u32 = 1;
 
 /// The lengths of the texts that are timed, in bytes.
 pub const SHORT_TEXT: usize = 2 << 10;
@@ -157,8 +158,9 @@ impl Text {
             let start = text.bytes.len();
             text.bytes.extend(laid_out(LABEL, data, layout));
             let length = text.bytes.len() - start;
-            let entry = [start, length, start + LABEL_AT, LABEL.len(), data.len()];
-            text.table.extend(entry.map(|number| number as u32));
+            let numbers = [start, length, start + LABEL_AT, LABEL.len(), data.len()];
+            text.table.extend(numbers.map(|number| number as u32));
+            text.table.push(FAMILY);
         }
         text
     }
@@ -260,6 +262,6 @@ mod tests {
     fn tables() {
         let text = Text::of(Messages::Tiny(2), WRITTEN);
         assert_eq!(text.bytes.len(), 198);
-        assert_eq!(text.table, [2, 0, 99, 11, 11, 32, 99, 99, 110, 11, 32]);
+        assert_eq!(text.table, [2, 0, 99, 11, 11, 32, 1, 99, 99, 110, 11, 32, 1]);
     }
 }

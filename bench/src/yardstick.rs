@@ -25,7 +25,7 @@ const GROUP: usize = 4;
 const GROUP_DATA: usize = 3;
 
 /// What a table has for each message.
-const ENTRY: usize = 5;
+const ENTRY: usize = 6;
 
 const BEGIN: &[u8] = b"-----BEGIN ";
 const END: &[u8] = b"-----END ";
@@ -96,6 +96,8 @@ pub enum Refusal {
 pub struct Message {
     /// Where the opening label stands in the text.
     pub label: Range<usize>,
+    /// Which family the label is of.
+    pub family: u32,
     /// How many bytes of data there are.
     pub size: usize,
 }
@@ -120,8 +122,8 @@ fn read<C: Codec>(text: &[u8], out: &mut [u8]) -> Result<Message, Refusal> {
     Ok(message(label, size))
 }
 
-/// Indexes a bundle: the count of its messages, then start, length, label offset, label length and data size of each.
-/// Answers how many numbers of the table that are.
+/// Indexes a bundle: the count of its messages, then start, length, label offset, label length, data size and family of
+/// each. Answers how many numbers of the table that are.
 fn index<C: Codec>(text: &[u8], table: &mut [u32]) -> Result<usize, Refusal> {
     if text.len() > TEXT_LIMIT {
         return Err(Refusal::TooLong);
@@ -134,8 +136,8 @@ fn index<C: Codec>(text: &[u8], table: &mut [u32]) -> Result<usize, Refusal> {
         let entry = entries
             .get_mut(messages * ENTRY..(messages + 1) * ENTRY)
             .ok_or(Refusal::Room)?;
-        let label = message.label;
-        let numbers = [at, length, at + label.start, label.len(), message.size];
+        let (label, family) = (message.label, message.family as usize);
+        let numbers = [at, length, at + label.start, label.len(), message.size, family];
         entry.copy_from_slice(&numbers.map(|number| number as u32));
         messages += 1;
         at += length;
@@ -188,7 +190,24 @@ fn skip<C: Codec>(text: &[u8]) -> Result<(usize, Message), Refusal> {
 fn message(label: &[u8], size: usize) -> Message {
     Message {
         label: BEGIN.len()..BEGIN.len() + label.len(),
+        family: family(label),
         size,
+    }
+}
+
+/// The family of a label: those of RFC 7468, figure 4, by their order, two of them with older names.
+fn family(label: &[u8]) -> u32 {
+    match label {
+        b"CERTIFICATE" | b"X509 CERTIFICATE" | b"X.509 CERTIFICATE" => 1,
+        b"X509 CRL" => 2,
+        b"CERTIFICATE REQUEST" | b"NEW CERTIFICATE REQUEST" => 3,
+        b"PKCS7" => 4,
+        b"CMS" => 5,
+        b"PRIVATE KEY" => 6,
+        b"ENCRYPTED PRIVATE KEY" => 7,
+        b"ATTRIBUTE CERTIFICATE" => 8,
+        b"PUBLIC KEY" => 9,
+        _ => 0,
     }
 }
 
@@ -462,6 +481,7 @@ mod tests {
             assert!(agree(text.as_bytes()));
             let message = Message {
                 label: 11..12,
+                family: 0,
                 size: data.len(),
             };
             for Yardstick { name, read, .. } in YARDSTICKS {
@@ -573,6 +593,40 @@ mod tests {
         // One byte more, and strict but for its length: the last line ends in CRLF.
         text.insert(TEXT_LIMIT - 1, CR);
         assert!(!agree(&text));
+    }
+
+    #[test]
+    fn families() {
+        let known = [
+            "CERTIFICATE",
+            "X509 CRL",
+            "CERTIFICATE REQUEST",
+            "PKCS7",
+            "CMS",
+            "PRIVATE KEY",
+            "ENCRYPTED PRIVATE KEY",
+            "ATTRIBUTE CERTIFICATE",
+            "PUBLIC KEY",
+            "X509 CERTIFICATE",
+            "X.509 CERTIFICATE",
+            "NEW CERTIFICATE REQUEST",
+        ];
+        let others = [
+            "",
+            "CRL",
+            "CERTIFICATE CHAIN",
+            "RSA PRIVATE KEY",
+            "certificate",
+            "CM",
+            "CMSX",
+        ];
+        let text = |label: &&str| texts::message(label.as_bytes(), b"foobar");
+        let all: Vec<Vec<u8>> = known.iter().chain(&others).map(text).collect();
+        assert!(all.iter().all(|text| agree(text)));
+        agree(&all.concat());
+        let numbers = known.map(|label| family(label.as_bytes()));
+        assert_eq!(numbers, [1, 2, 3, 4, 5, 6, 7, 8, 9, 1, 1, 3]);
+        assert!(others.iter().all(|label| family(label.as_bytes()) == 0));
     }
 
     #[test]
