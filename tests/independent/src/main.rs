@@ -44,11 +44,11 @@ fn main() {
     fixed::run(&mut trial, &mut Random::new(SEED));
     limits::run(&mut trial, &mut Random::new(SEED));
     let fixed = std::mem::take(&mut trial.tally);
-    let families = leaps::run(&mut trial, &mut Random::new(seed));
+    let batches = leaps::run(&mut trial, &mut Random::new(seed));
     let at_leaps = std::mem::take(&mut trial.tally);
     rounds::run(&mut trial, &mut Random::new(seed), count);
     let random = trial.tally;
-    println!("at leaps: {}", families.join(", "));
+    println!("at leaps: {}", batches.join(", "));
     let rounds = format!("seed {seed}, {count} rounds");
     print_counts(&[&fixed, &at_leaps, &random], &rounds, started);
     require_all("at leaps", &at_leaps, &NOT_AT_LEAPS);

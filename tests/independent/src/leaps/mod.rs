@@ -17,7 +17,7 @@ use crate::trial::{fail, Trial};
 pub use random_lines::text as random_text;
 
 /// Cases of one kind.
-struct Family {
+struct Batch {
     name: &'static str,
     /// The calls, and their grammars or styles, that it tries with inputs that are accepted and with ones that are refused.
     tried: &'static [(Call, u32)],
@@ -45,28 +45,28 @@ const WRITER: &[(Call, u32)] = &[
     (Call::Write, style::CR),
 ];
 
-const fn family(name: &'static str, tried: &'static [(Call, u32)], run: fn(&mut Trial, &mut Random)) -> Family {
-    Family { name, tried, run }
+const fn batch(name: &'static str, tried: &'static [(Call, u32)], run: fn(&mut Trial, &mut Random)) -> Batch {
+    Batch { name, tried, run }
 }
 
-const FAMILIES: [Family; 17] = [
-    family("plain lines", READERS, bodies::plain),
-    family("spaced lines", READERS, bodies::spaced),
-    family("ragged lines", READERS, bodies::ragged),
-    family("damaged lines", READERS, bodies::damaged),
-    family("damaged bundles", INDEX, bodies::damaged_in_bundles),
-    family("starts", READERS, bodies::starts),
-    family("bytes", READERS, bodies::every_byte),
-    family("runs of white", READERS, bodies::runs),
-    family("odd line ends", READ_LINES, line_ends::odd),
-    family("mixed line ends", READ_STRICT, line_ends::mixed),
-    family("line ends alone", READ_LAX, line_ends::alone),
-    family("boundaries", READERS, boundaries::damaged),
-    family("labels", READERS, boundaries::labels),
-    family("joints", INDEX, boundaries::joints),
-    family("rooms", READERS, outputs::rooms),
-    family("long texts", READERS, long),
-    family("written", WRITER, outputs::written),
+const BATCHES: [Batch; 17] = [
+    batch("plain lines", READERS, bodies::plain),
+    batch("spaced lines", READERS, bodies::spaced),
+    batch("ragged lines", READERS, bodies::ragged),
+    batch("damaged lines", READERS, bodies::damaged),
+    batch("damaged bundles", INDEX, bodies::damaged_in_bundles),
+    batch("starts", READERS, bodies::starts),
+    batch("bytes", READERS, bodies::every_byte),
+    batch("runs of white", READERS, bodies::runs),
+    batch("odd line ends", READ_LINES, line_ends::odd),
+    batch("mixed line ends", READ_STRICT, line_ends::mixed),
+    batch("line ends alone", READ_LAX, line_ends::alone),
+    batch("boundaries", READERS, boundaries::damaged),
+    batch("labels", READERS, boundaries::labels),
+    batch("joints", INDEX, boundaries::joints),
+    batch("rooms", READERS, outputs::rooms),
+    batch("long texts", READERS, long),
+    batch("written", WRITER, outputs::written),
 ];
 
 fn long(trial: &mut Trial, random: &mut Random) {
@@ -74,13 +74,13 @@ fn long(trial: &mut Trial, random: &mut Random) {
     line_ends::long(trial, random);
 }
 
-/// Runs all families, and tells how many cases each had.
+/// Runs all batches, and tells how many cases each had.
 pub fn run(trial: &mut Trial, random: &mut Random) -> Vec<String> {
-    let counted = |family: &Family| format!("{} {}", family.name, family.cases(trial, random));
-    FAMILIES.iter().map(counted).collect()
+    let counted = |batch: &Batch| format!("{} {}", batch.name, batch.cases(trial, random));
+    BATCHES.iter().map(counted).collect()
 }
 
-impl Family {
+impl Batch {
     fn cases(&self, trial: &mut Trial, random: &mut Random) -> u64 {
         let before = std::mem::take(&mut trial.tally);
         (self.run)(trial, random);
@@ -90,7 +90,7 @@ impl Family {
         count
     }
 
-    /// A family that no longer comes upon both, what is accepted and what is refused, is noticed.
+    /// A batch that no longer comes upon both, what is accepted and what is refused, is noticed.
     fn require_both(&self, tally: &Tally) {
         for &(call, asked) in self.tried {
             let (accepted, refused) = tally.accepted_and_refused(call, asked);
