@@ -65,7 +65,7 @@ const OLD_REPORT: Report = Report {
     size: 0xa5a5_a5a5_a5a5_a5a5,
     label_offset: u64::MAX - 1,
     label_length: 7,
-    reserved5: 1,
+    family: u64::MAX - 2,
     style: u64::MAX,
     reserved7: 3,
 };

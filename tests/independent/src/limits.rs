@@ -15,7 +15,7 @@ const UNKNOWN: u32 = 4;
 /// As many messages as a text has room for, the numbers of their table, and the bytes of the largest text that is written in
 /// each style.
 const MOST_MESSAGES: usize = 559_240;
-const LARGEST_TABLE: usize = 2_796_201;
+const LARGEST_TABLE: usize = 3_355_441;
 const LARGEST_WRITTEN: [usize; 3] = [11_359_735, 11_534_500, 11_359_735];
 
 pub fn run(trial: &mut Trial, random: &mut Random) {
@@ -59,12 +59,15 @@ fn refused(judged: &Judged, number: u32, place: usize) -> bool {
     judged.message.as_ref() == Err(&refusal) && judged.bundle.as_ref() == Err(&refusal)
 }
 
-/// Behind the messages is white, up to the limit; then a byte that has no place there, for which the whole table is cleared.
+/// The last of them has a label, of the family 4, for which there is room. Behind them is white, up to the limit; then a byte
+/// that has no place there, for which the whole table is cleared.
 fn most_messages(trial: &mut Trial) {
-    let mut text = SMALLEST_MESSAGE.repeat(MOST_MESSAGES);
+    let mut text = SMALLEST_MESSAGE.repeat(MOST_MESSAGES - 1);
+    text.extend(b"-----BEGIN PKCS7----------END PKCS7-----");
     text.resize(TEXT_LIMIT, b' ');
     let bundle = trial.bundle_under(&text, LAX, &mut Rooms::Tight);
-    assert_eq!(bundle.map(|table| table.result.len()), Ok(LARGEST_TABLE));
+    let size_and_family = bundle.map(|table| (table.result.len(), table.result.last().copied()));
+    assert_eq!(size_and_family, Ok((LARGEST_TABLE, Some(4))));
     let place = TEXT_LIMIT - 1;
     text[place] = b'x';
     let bundle = trial.bundle_under(&text, LAX, &mut Rooms::Exact);

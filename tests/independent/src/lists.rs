@@ -1,5 +1,6 @@
 //! Lists of labels and data that the writer takes, whose texts are joined to a bundle.
 
+use crate::known::family_of;
 use crate::paper::{table, Found, Message, BEGIN, GRAMMARS};
 use crate::trial::Trial;
 
@@ -19,6 +20,7 @@ impl Joined {
             start,
             length: written.len(),
             label: (start + BEGIN.len(), label.len()),
+            family: family_of(label),
             data: data.to_vec(),
         });
     }

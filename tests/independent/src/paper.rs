@@ -2,6 +2,7 @@
 //! these what each call has to answer. It is slow and direct, and shares nothing with the library.
 
 use crate::bits;
+use crate::known::{family_of, OTHER};
 use crate::regex::{symbol_at, Regex, Regexes, CRLF, EMPTY, EPSILON};
 
 pub const LAX: u32 = 1;
@@ -30,7 +31,8 @@ pub const HYPHENS: &[u8] = b"-----";
 pub const LINE: usize = 64;
 const GROUP: usize = 4;
 const MOST_PADS: usize = 2;
-const NUMBERS_PER_MESSAGE: usize = 5;
+/// In a table, behind the count.
+pub const NUMBERS_PER_MESSAGE: usize = 6;
 
 const HT: u8 = 9;
 const LF: u8 = 10;
@@ -66,21 +68,23 @@ pub struct Refusal {
     pub place: usize,
 }
 
-/// What the checks before that of the room found: the result, and the label's offset and length and the style of the line ends
-/// if the call reports them.
+/// What the checks before that of the room found: the result, and the label's offset and length, its family and the style of
+/// the line ends if the call reports them.
 #[derive(Clone, Debug, PartialEq, Eq)]
 pub struct Found<T> {
     pub result: Vec<T>,
     pub label: (usize, usize),
+    pub family: u32,
     pub style: u32,
 }
 
 impl<T> Found<T> {
-    /// The result of a call that reports neither a label nor a style.
+    /// The result of a call that reports no label, no family and no style.
     pub fn alone(result: Vec<T>) -> Found<T> {
         Found {
             result,
             label: (0, 0),
+            family: OTHER,
             style: style::NONE,
         }
     }
@@ -95,6 +99,7 @@ pub struct Answer<T> {
     pub place: usize,
     pub size: usize,
     pub label: (usize, usize),
+    pub family: u32,
     pub style: u32,
     pub lent: Vec<T>,
 }
@@ -105,6 +110,7 @@ pub struct Message {
     pub start: usize,
     pub length: usize,
     pub label: (usize, usize),
+    pub family: u32,
     pub data: Vec<u8>,
 }
 
@@ -341,6 +347,7 @@ impl Paper {
         Ok(Found {
             result: message.data,
             label: message.label,
+            family: message.family,
             style: style_of(text),
         })
     }
@@ -506,11 +513,11 @@ fn message_of(grammar: Grammar, text: &[u8], course: &Course) -> Result<Message,
     }
     let first_hyphen = of_whole(course.ends.first_hyphen) - 1;
     let data = data_of(grammar, text, opening, first_hyphen)?;
-    let label = (label.start, label.len());
     Ok(Message {
         start: course.start,
         length: course.reach - course.start,
-        label,
+        label: (label.start, label.len()),
+        family: family_of(&text[label]),
         data,
     })
 }
@@ -542,7 +549,7 @@ fn data_of(grammar: Grammar, text: &[u8], opening: usize, closing: usize) -> Res
     Ok(data)
 }
 
-/// The count, then start, length, label offset, label length and data size of each message.
+/// The count, then start, length, label offset, label length, data size and family of each message.
 pub fn table(messages: &[Message]) -> Vec<u32> {
     let mut table = Vec::with_capacity(1 + NUMBERS_PER_MESSAGE * messages.len());
     table.push(messages.len() as u32);
@@ -556,6 +563,7 @@ pub fn table(messages: &[Message]) -> Vec<u32> {
             message.data.len(),
         ];
         table.extend(numbers.map(|number| number as u32));
+        table.push(message.family);
     }
     table
 }
@@ -615,7 +623,8 @@ fn written(label: &[u8], data: &[u8], line_end: &[u8]) -> Vec<u8> {
     text
 }
 
-/// Check 10, and what is lent: the result and then zeros, or zeros only. Only what is accepted has a style.
+/// Check 10, and what is lent: the result and then zeros, or zeros only. Only what is accepted has a style; label and family
+/// are told where the room alone is too small, too.
 pub fn answer<T: Copy + Default>(judgement: &Judgement<T>, room: usize) -> Answer<T> {
     let mut lent = vec![T::default(); room];
     match judgement {
@@ -624,6 +633,7 @@ pub fn answer<T: Copy + Default>(judgement: &Judgement<T>, room: usize) -> Answe
             place: refusal.place,
             size: 0,
             label: (0, 0),
+            family: OTHER,
             style: 0,
             lent,
         },
@@ -639,6 +649,7 @@ pub fn answer<T: Copy + Default>(judgement: &Judgement<T>, room: usize) -> Answe
                 place: 0,
                 size,
                 label: found.label,
+                family: found.family,
                 style: if fits { found.style } else { 0 },
                 lent,
             }

@@ -1,12 +1,14 @@
 //! The second implementation against the paper's own samples: the table, its "Also" paragraph, the written sizes, and samples
 //! of change requests. What is accepted at a limit takes too long here, and is in `limits.rs`.
 
+use crate::known::{family_of, FAMILIES, KNOWN};
 use crate::paper::style::{CR, CRLF, LF, MIXED, NONE};
 use crate::paper::{answer, label_part, Answer, Paper, Refusal, GRAMMARS, LAX, STANDARD, STRICT, STYLES};
-use crate::samples::{lined_styles, m_with, rows, spare_bits, split_pads, white_styles, M};
+use crate::samples::{lined_styles, m_labelled, m_with, rows, spare_bits, split_pads, white_styles, M, OTHER_LABELS};
 
 const ROOM: usize = 100;
-const TABLE_OF_TWO: [u32; 11] = [2, 0, 39, 11, 1, 1, 39, 39, 50, 1, 1];
+const TABLE_OF_M: [u32; 7] = [1, 0, 39, 11, 1, 1, 0];
+const TABLE_OF_TWO: [u32; 13] = [2, 0, 39, 11, 1, 1, 0, 39, 39, 50, 1, 1, 0];
 const UNKNOWN_STYLES: [u32; 4] = [0, 4, 257, u32::MAX];
 
 /// An accepted text whose line ends are LF.
@@ -25,6 +27,7 @@ fn accepted<T: Copy + Default>(result: &[T], label: (usize, usize)) -> Answer<T>
         place: 0,
         size: result.len(),
         label,
+        family: 0,
         style: 0,
         lent,
     }
@@ -36,6 +39,7 @@ fn refused<T: Copy + Default>(number: u32, place: usize) -> Answer<T> {
         place,
         size: 0,
         label: (0, 0),
+        family: 0,
         style: 0,
         lent: vec![T::default(); ROOM],
     }
@@ -146,13 +150,14 @@ fn data_of_0_1_and_8_388_609_bytes() {
 }
 
 #[test]
-fn tables_of_two_messages() {
+fn tables_of_one_and_two_messages() {
     let twice = [M, M].concat();
     for grammar in GRAMMARS {
+        assert_eq!(index(M, grammar), accepted(&TABLE_OF_M, (0, 0)));
         assert_eq!(index(&twice, grammar), accepted(&TABLE_OF_TWO, (0, 0)));
     }
     let joined = [&M[..38], M].concat();
-    let table = [2, 0, 38, 11, 1, 1, 38, 39, 49, 1, 1];
+    let table = [2, 0, 38, 11, 1, 1, 0, 38, 39, 49, 1, 1, 0];
     assert_eq!(index(&joined, LAX), accepted(&table, (0, 0)));
     assert_eq!(index(&joined, STANDARD), accepted(&table, (0, 0)));
     assert_eq!(index(&joined, STRICT), refused(5, 38));
@@ -181,17 +186,18 @@ fn messages_are_judged_from_the_left() {
 #[test]
 fn the_owner_of_white() {
     let text = [b" \t", M, b" \r\n", M, b"\n"].concat();
-    let table = [2, 0, 44, 13, 1, 1, 44, 40, 55, 1, 1];
+    let table = [2, 0, 44, 13, 1, 1, 0, 44, 40, 55, 1, 1, 0];
     assert_eq!(index(&text, LAX), accepted(&table, (0, 0)));
 }
 
-/// Number 10 with what the result needs, no style, and zeros in all of the room.
+/// Number 10 with what the result needs, no family and no style, and zeros in all of the room.
 fn small<T: Clone + Default>(size: usize, label: (usize, usize), room: usize) -> Answer<T> {
     Answer {
         number: 10,
         place: 0,
         size,
         label,
+        family: 0,
         style: 0,
         lent: vec![T::default(); room],
     }
@@ -203,7 +209,7 @@ fn too_little_room() {
     let (message, bundle) = (paper.judge_read(M, STRICT), paper.judge_index(&[M, M].concat(), STRICT));
     assert_eq!(answer(&message, 1).lent, b"f");
     assert_eq!(answer(&message, 0), small(1, (11, 1), 0));
-    assert_eq!(answer(&bundle, 10), small(11, (0, 0), 10));
+    assert_eq!(answer(&bundle, 12), small(13, (0, 0), 12));
     assert_eq!(answer(&paper.judge_write(b"A", b"f", LF), 38), small(39, (0, 0), 38));
     assert_eq!(answer(&paper.judge_write(b"A", b"f", CRLF), 41), small(42, (0, 0), 41));
 }
@@ -303,6 +309,64 @@ fn no_style_but_of_an_accepted_message() {
     assert_eq!(read(&m_with(b"\nZg=\n"), LAX).style, 0);
     assert_eq!(answer(&Paper::new().judge_read(M, STRICT), 0).style, 0);
     assert_eq!(index(M, STRICT).style, 0);
+}
+
+#[test]
+fn the_families_of_figure_4_and_of_older_names() {
+    let figure_4: [&[u8]; 9] = [
+        b"CERTIFICATE",
+        b"X509 CRL",
+        b"CERTIFICATE REQUEST",
+        b"PKCS7",
+        b"CMS",
+        b"PRIVATE KEY",
+        b"ENCRYPTED PRIVATE KEY",
+        b"ATTRIBUTE CERTIFICATE",
+        b"PUBLIC KEY",
+    ];
+    assert_eq!(figure_4.map(family_of), [1, 2, 3, 4, 5, 6, 7, 8, 9]);
+    assert_eq!(family_of(b"X509 CERTIFICATE"), family_of(b"CERTIFICATE"));
+    assert_eq!(family_of(b"X.509 CERTIFICATE"), family_of(b"CERTIFICATE"));
+    assert_eq!(family_of(b"NEW CERTIFICATE REQUEST"), family_of(b"CERTIFICATE REQUEST"));
+    assert!(OTHER_LABELS.iter().all(|label| family_of(label) == 0));
+    assert!(KNOWN.iter().all(|&(_, family)| (1..FAMILIES as u32).contains(&family)));
+}
+
+#[test]
+fn the_family_is_told_with_room_and_without() {
+    let mut paper = Paper::new();
+    let others = OTHER_LABELS.map(|label| (label, 0));
+    for (label, family) in KNOWN.into_iter().chain(others) {
+        let text = m_labelled(label, label);
+        for grammar in GRAMMARS {
+            let judged = paper.judge_read(&text, grammar);
+            assert_eq!([0, 1].map(|room| answer(&judged, room).number), [10, 0]);
+            assert_eq!([0, 1].map(|room| answer(&judged, room).family), [family; 2]);
+            let table = [1, 0, text.len() as u32, 11, label.len() as u32, 1, family];
+            let judged = paper.judge_index(&text, grammar).unwrap();
+            assert_eq!((judged.result, judged.family), (table.to_vec(), 0));
+        }
+    }
+}
+
+#[test]
+fn labels_of_one_family_differ_by_their_bytes() {
+    let text = m_labelled(b"X509 CERTIFICATE", b"CERTIFICATE");
+    assert_eq!(
+        GRAMMARS.map(|grammar| read(&text, grammar)),
+        [(); 3].map(|()| refused(7, 47))
+    );
+}
+
+#[test]
+fn several_families_in_one_bundle() {
+    let labels: [&[u8]; 4] = [b"CMS", b"NEW CERTIFICATE REQUEST", b"CRL", b"PUBLIC KEY"];
+    let bundle = labels.map(|label| m_labelled(label, label)).concat();
+    for grammar in GRAMMARS {
+        let table = Paper::new().judge_index(&bundle, grammar).unwrap().result;
+        let families: Vec<u32> = table[1..].chunks(6).map(|entry| entry[5]).collect();
+        assert_eq!(families, [5, 3, 0, 9]);
+    }
 }
 
 #[test]

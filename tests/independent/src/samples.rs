@@ -1,4 +1,4 @@
-//! The paper's "Counter samples": M and the rows of the table, and rows of change requests K9, K8 and K7.
+//! The paper's "Counter samples": M and the rows of the table, and rows of change requests K9, K8, K7 and K6.
 
 use crate::paper::style::{CR, CRLF, LF, MIXED, NONE};
 
@@ -11,6 +11,12 @@ pub type Sample = Result<&'static [u8], (u32, usize)>;
 /// M with another body, which stands between the two boundaries.
 pub fn m_with(body: &[u8]) -> Vec<u8> {
     [b"-----BEGIN A-----".as_slice(), body, b"-----END A-----\n"].concat()
+}
+
+/// M with other labels.
+pub fn m_labelled(opening: &[u8], closing: &[u8]) -> Vec<u8> {
+    let parts = [b"-----BEGIN ", opening, b"-----\nZg==\n-----END ", closing, b"-----\n"];
+    parts.concat()
 }
 
 /// The data of M, and with a byte or two more.
@@ -163,3 +169,32 @@ pub fn spread(white: &[u8]) -> [Vec<u8>; 7] {
         [&before.concat(), white, &behind.concat()].concat()
     })
 }
+
+/// Labels that are in no family, after change request K6: the two that it names, what differs little from a known one or has one
+/// in it, and what other tools write.
+pub const OTHER_LABELS: [&[u8]; 24] = [
+    b"",
+    b"A",
+    b"CRL",
+    b"CERTIFICATE CHAIN",
+    b"certificate",
+    b"Certificate",
+    b"CERTIFICATe",
+    b"CERTIFICAT",
+    b"ERTIFICATE",
+    b"CERTIFICATES",
+    b"CERTIFICATE-REQUEST",
+    b"NEW CERTIFICATE",
+    b"TRUSTED CERTIFICATE",
+    b"X509 CERTIFICATE REQUEST",
+    b"X.509 CRL",
+    b"X509CRL",
+    b"PKCS",
+    b"PKCS 7",
+    b"PKCS #7 SIGNED DATA",
+    b"CMS CMS",
+    b"KEY",
+    b"RSA PRIVATE KEY",
+    b"RSA PUBLIC KEY",
+    b"SSH2 ENCRYPTED PRIVATE KEY",
+];

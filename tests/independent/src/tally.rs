@@ -1,5 +1,6 @@
 //! How many cases there were of each call, by what was asked for and by number.
 
+use crate::known::FAMILIES;
 use crate::paper::{number::*, style, LAX, STRICT};
 
 #[derive(Clone, Copy, Debug, PartialEq, Eq)]
@@ -11,6 +12,16 @@ pub enum Call {
 }
 
 pub const CALLS: [Call; 4] = [Call::Read, Call::Label, Call::Index, Call::Write];
+
+/// What tells a family: the read call, with enough room or not, and an entry of an index.
+#[derive(Clone, Copy, Debug, PartialEq, Eq)]
+pub enum Teller {
+    Read,
+    ReadWithoutRoom,
+    Entry,
+}
+
+pub const TELLERS: [Teller; 3] = [Teller::Read, Teller::ReadWithoutRoom, Teller::Entry];
 const NUMBERS: usize = WRITER_UNKNOWN_STYLE as usize + 1;
 /// What is asked for are grammars, or of the writer styles. Both have the numbers 1, 2 and 3; all others have this slot.
 pub const UNKNOWN: u32 = 0;
@@ -45,6 +56,8 @@ pub struct Tally {
     numbers: [[[u64; NUMBERS]; SLOTS]; CALLS.len()],
     /// Of the messages that were read, by grammar and style.
     styles: [[u64; FOUND]; SLOTS],
+    /// By what told them, grammar and family.
+    families: [[[u64; FAMILIES]; SLOTS]; TELLERS.len()],
 }
 
 fn slot(asked: u32) -> usize {
@@ -61,6 +74,10 @@ impl Tally {
         if call == Call::Read && number == ACCEPTED {
             self.styles[slot][style as usize] += 1;
         }
+    }
+
+    pub fn tell(&mut self, teller: Teller, grammar: u32, family: u32) {
+        self.families[teller as usize][slot(grammar)][family as usize] += 1;
     }
 
     pub fn of_call(&self, call: Call) -> u64 {
@@ -81,8 +98,10 @@ impl Tally {
     pub fn add(&mut self, other: &Tally) {
         let ours = self.numbers.iter_mut().flatten().flatten();
         let ours = ours.chain(self.styles.iter_mut().flatten());
+        let ours = ours.chain(self.families.iter_mut().flatten().flatten());
         let theirs = other.numbers.iter().flatten().flatten();
         let theirs = theirs.chain(other.styles.iter().flatten());
+        let theirs = theirs.chain(other.families.iter().flatten().flatten());
         ours.zip(theirs).for_each(|(ours, theirs)| *ours += theirs);
     }
 
@@ -114,6 +133,21 @@ impl Tally {
         format!("styles that were read  {}", counts.join(", "))
     }
 
+    /// One line for the families that something told.
+    pub fn families_line(&self, teller: Teller) -> String {
+        let slots = &self.families[teller as usize];
+        let of_family = |family: usize| slots.iter().map(|slot| slot[family]).sum::<u64>();
+        let counts: Vec<String> = (0..FAMILIES)
+            .map(|family| format!("{family}: {}", of_family(family)))
+            .collect();
+        let by = match teller {
+            Teller::Read => "by read",
+            Teller::ReadWithoutRoom => "by read without room",
+            Teller::Entry => "by entries of an index",
+        };
+        format!("families told {by}  {}", counts.join(", "))
+    }
+
     /// The numbers that the paper lists for a call and what is asked for but that never occurred.
     pub fn missing(&self) -> Vec<(Call, u32, u32)> {
         let listed = CALLS
@@ -131,6 +165,16 @@ impl Tally {
         listed
             .filter(|&(grammar, style)| grammar == LAX || style != style::NONE)
             .filter(|&(grammar, style)| self.styles[slot(grammar)][style as usize] == 0)
+            .collect()
+    }
+
+    /// The families that something may tell under each grammar but never did.
+    pub fn missing_families(&self) -> Vec<(Teller, u32, u32)> {
+        let listed = TELLERS.into_iter();
+        let listed = listed.flat_map(|teller| (LAX..=STRICT).map(move |grammar| (teller, grammar)));
+        let listed = listed.flat_map(|(teller, grammar)| (0..FAMILIES as u32).map(move |n| (teller, grammar, n)));
+        listed
+            .filter(|&(teller, grammar, family)| self.families[teller as usize][slot(grammar)][family as usize] == 0)
             .collect()
     }
 }

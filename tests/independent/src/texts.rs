@@ -1,6 +1,7 @@
 //! Makers of random inputs: valid texts of each grammar, odd ones, damaged ones, and soups.
 
 use crate::bits;
+use crate::known::KNOWN;
 use crate::paper::{BEGIN, END, GRAMMARS, HYPHENS, LABEL_LIMIT, LAX, LINE, STANDARD, STYLES};
 use crate::random::Random;
 
@@ -15,10 +16,11 @@ pub const UNKNOWN_NUMBERS: [u32; 8] = [0, 4, 5, 255, 257, 0x0001_0002, 0x8000_00
 /// One style in this many is such a number.
 const UNKNOWN_STYLE: usize = 5;
 
+/// Labels that are in no family.
 const LABELS: [&[u8]; 8] = [
     b"A",
-    b"CERTIFICATE",
-    b"X509 CRL",
+    b"CRL",
+    b"CERTIFICATE CHAIN",
     b"EC PRIVATE KEY",
     b"A-B",
     b"pkcs7",
@@ -133,14 +135,68 @@ pub struct Content {
     pads: usize,
 }
 
-/// A valid label, now and then one near the limit or over it.
+/// A valid label, often a known one or nearly that, now and then one near the limit or over it.
 pub fn label(r: &mut Random) -> Vec<u8> {
     match r.below(12) {
         0 => Vec::new(),
         1 => label_of(r.between(LABEL_LIMIT - 1, LABEL_LIMIT + 1), r),
-        2..=7 => r.pick(&LABELS).to_vec(),
+        2..=4 => known(r).to_vec(),
+        5 | 6 => near_known(r),
+        7 | 8 => r.pick(&LABELS).to_vec(),
         _ => label_of(r.between(1, 20), r),
     }
+}
+
+/// A label that has a family.
+fn known(r: &mut Random) -> &'static [u8] {
+    r.pick(&KNOWN).0
+}
+
+/// A valid label that differs little from a known one, or begins or ends with it.
+fn near_known(r: &mut Random) -> Vec<u8> {
+    let name = known(r);
+    let rest = LABEL_LIMIT - name.len();
+    match r.below(8) {
+        0 | 1 => with_one_changed(name, r),
+        2 => without_separators(&name[..r.below(name.len())]),
+        3 => without_separators(&name[r.between(1, name.len() - 1)..]),
+        4 => lengthened(name, r),
+        5 => name.to_ascii_lowercase(),
+        6 => [name, &label_of(rest, r)].concat(),
+        _ => [&label_of(rest, r), name].concat(),
+    }
+}
+
+/// The same with another character in place of one, or with its case changed, or with another separator.
+fn with_one_changed(name: &[u8], r: &mut Random) -> Vec<u8> {
+    let mut label = name.to_vec();
+    let byte = &mut label[r.below(name.len())];
+    *byte = match *byte {
+        b' ' => r.pick(b"-_"),
+        letter if letter.is_ascii_alphabetic() && r.one_in(2) => letter ^ 0x20,
+        _ => label_character(r),
+    };
+    label
+}
+
+/// The same with a character or a known label before it or behind it, with a separator between them or none.
+fn lengthened(name: &[u8], r: &mut Random) -> Vec<u8> {
+    let more = if r.one_in(4) {
+        known(r).to_vec()
+    } else {
+        vec![label_character(r)]
+    };
+    let between: &[u8] = r.pick(&[b"".as_slice(), b" ", b"-"]);
+    if r.one_in(2) {
+        [&more, between, name].concat()
+    } else {
+        [name, between, &more].concat()
+    }
+}
+
+/// What was cut may have a space at its end.
+fn without_separators(label: &[u8]) -> Vec<u8> {
+    label.trim_ascii().to_vec()
 }
 
 /// A valid label of this length.
@@ -216,6 +272,7 @@ fn closing_label(opening: &[u8], r: &mut Random) -> Vec<u8> {
         0 => label(r),
         1 => opening.to_ascii_lowercase(),
         2 => [opening, b"A"].concat(),
+        3 => known(r).to_vec(),
         _ => opening.to_vec(),
     }
 }
@@ -405,6 +462,19 @@ pub fn stretched(text: &[u8], length: usize) -> Vec<u8> {
 #[cfg(test)]
 mod tests {
     use super::*;
+    use crate::known::family_of;
+    use crate::paper::Paper;
+
+    #[test]
+    fn labels_are_valid_and_known_ones_are_among_them() {
+        let (mut paper, mut random) = (Paper::new(), Random::new(1));
+        let labels: Vec<Vec<u8>> = (0..20_000).map(|_| label(&mut random)).collect();
+        assert!(labels.iter().all(|label| paper.is_label(label)));
+        assert!(KNOWN.iter().all(|(name, _)| labels.iter().any(|label| label == name)));
+        let near: Vec<Vec<u8>> = (0..1_000).map(|_| near_known(&mut random)).collect();
+        // Some that were cut are known by another name.
+        assert!(near.iter().filter(|label| family_of(label) == 0).count() > 900);
+    }
 
     #[test]
     fn line_ends_in_all_mixtures() {

@@ -1,10 +1,11 @@
 //! Runs the library's calls, each on outputs that hold old values, and compares all that they answer with the paper.
 
+use crate::known::{family_of, OTHER};
 use crate::lent::{Cell, Lent, LentReport};
-use crate::paper::{answer, label_part, Answer, Found, Judgement, Paper};
-use crate::paper::{BEGIN, DATA_LIMIT, GRAMMARS, STRICT, STYLES};
+use crate::paper::{answer, label_part, number, Answer, Found, Judgement, Paper};
+use crate::paper::{BEGIN, DATA_LIMIT, GRAMMARS, NUMBERS_PER_MESSAGE, STRICT, STYLES};
 use crate::random::Random;
-use crate::tally::{Call, Tally};
+use crate::tally::{Call, Tally, Teller};
 use crate::texts::LONG_TEXT;
 use std::thread;
 use zullifern::raw::{self, Report};
@@ -149,7 +150,8 @@ impl Trial {
     /// The call on a text as a bundle.
     pub fn bundle_under(&mut self, text: &[u8], grammar: u32, rooms: &mut Rooms) -> Judgement<u32> {
         let bundle = self.paper.judge_index(text, grammar);
-        let lent = rooms.of(&bundle, 1 + text.len() / SHORTEST_MESSAGE * 5);
+        let most = 1 + text.len() / SHORTEST_MESSAGE * NUMBERS_PER_MESSAGE;
+        let lent = rooms.of(&bundle, most);
         lent.iter().for_each(|&room| self.index(text, grammar, room, &bundle));
         bundle
     }
@@ -176,11 +178,12 @@ impl Trial {
         Some(text)
     }
 
-    /// Under all grammars a written text has the label, the data and the style.
+    /// Under all grammars a written text has the label, its family, the data and the style.
     fn read_back(&mut self, label: &[u8], data: &[u8], style: u32, text: &[u8]) {
         let back = Ok(Found {
             result: data.to_vec(),
             label: (BEGIN.len(), label.len()),
+            family: family_of(label),
             style,
         });
         for grammar in GRAMMARS {
@@ -193,6 +196,12 @@ impl Trial {
         let input = Input::text(Call::Read, text, grammar);
         let expected = answer(judgement, room);
         self.compare(&input, &expected, |lent, report| raw::read(text, grammar, lent, report));
+        let teller = match expected.number {
+            number::ACCEPTED => Teller::Read,
+            number::SMALL_OUTPUT => Teller::ReadWithoutRoom,
+            _ => return,
+        };
+        self.tally.tell(teller, grammar, expected.family);
     }
 
     pub fn index(&mut self, text: &[u8], grammar: u32, room: usize, judgement: &Judgement<u32>) {
@@ -201,6 +210,10 @@ impl Trial {
         self.compare(&input, &expected, |lent, report| {
             raw::index(text, grammar, lent, report)
         });
+        if expected.number == number::ACCEPTED {
+            let entries = expected.lent[1..expected.size].chunks_exact(NUMBERS_PER_MESSAGE);
+            entries.for_each(|entry| self.tally.tell(Teller::Entry, grammar, entry[NUMBERS_PER_MESSAGE - 1]));
+        }
     }
 
     fn write_once(&mut self, label: &[u8], data: &[u8], style: u32, room: usize, judgement: &Judgement<u8>) {
@@ -224,6 +237,7 @@ impl Trial {
             place: 0,
             size: 0,
             label: label_part(judgement),
+            family: OTHER,
             style: 0,
             lent: Vec::<u8>::new(),
         };
@@ -286,7 +300,7 @@ fn expected_report<T>(expected: &Answer<T>) -> Report {
         size: expected.size as u64,
         label_offset: expected.label.0 as u64,
         label_length: expected.label.1 as u64,
-        reserved5: 0,
+        family: u64::from(expected.family),
         style: u64::from(expected.style),
         reserved7: 0,
     }
