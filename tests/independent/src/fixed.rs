@@ -155,7 +155,7 @@ fn small_white(trial: &mut Trial, random: &mut Random) {
 
 /// All short lists of small items, each in each style: their texts joined are a bundle with that list.
 fn small_lists(trial: &mut Trial) {
-    let items: [(&[u8], &[u8]); 4] = [(b"", b"f"), (b"A", b"f"), (b"A", b"fo"), (b"A B", b"foo")];
+    let items: [(&[u8], &[u8]); 4] = [(b"", b"f"), (b"CMS", b"f"), (b"CMS", b"fo"), (b"X509 CRL", b"foo")];
     // A letter is the number of an item and that of its style.
     let letters: Vec<[u8; 2]> = (0..items.len() as u8)
         .flat_map(|item| STYLES.map(|style| [item, style as u8]))
