@@ -22,6 +22,15 @@ LINE_ENDS = {LF: b"\n", CRLF: b"\r\n", CR: b"\r"}
 # CR before LF is one line end with it, wherever the two stand.
 STYLES = {LF: re.compile(rb"(?<!\r)\n"), CRLF: re.compile(rb"\r\n"), CR: re.compile(rb"\r(?!\n)")}
 
+# Families of labels, by change request K6: figure 4 of RFC 7468 in its order, from 1 on, and what counts as one of these.
+# All other labels are in none, whose number is 0.
+FIGURE_4 = (
+    b"CERTIFICATE", b"X509 CRL", b"CERTIFICATE REQUEST", b"PKCS7", b"CMS", b"PRIVATE KEY", b"ENCRYPTED PRIVATE KEY",
+    b"ATTRIBUTE CERTIFICATE", b"PUBLIC KEY",
+)
+FAMILIES = {label: number for number, label in enumerate(FIGURE_4, 1)}
+FAMILIES |= {b"X509 CERTIFICATE": 1, b"X.509 CERTIFICATE": 1, b"NEW CERTIFICATE REQUEST": 3}
+
 
 class Node:
     def __add__(self, other):
@@ -217,21 +226,26 @@ def style_of(t):
     return found[0] if found else NONE
 
 
+def family_of(label):
+    """By all bytes of the label: case counts, and it is not enough to begin or end like one that is known."""
+    return FAMILIES.get(label, 0)
+
+
 class Answer:
-    def __init__(self, number, place=0, size=0, label_at=0, label_len=0, out=b"", style=NONE):
+    def __init__(self, number, place=0, size=0, label_at=0, label_len=0, out=b"", family=0, style=NONE):
         self.number, self.place, self.size = number, place, size
         self.label_at, self.label_len, self.out = label_at, label_len, out
-        self.style = style
+        self.family, self.style = family, style
 
     def row(self):
         return (self.number, self.place, self.size, self.label_at, self.label_len)
 
     def report(self):
-        """The eight numbers of a report. No call fills the sixth and the last."""
-        return [*self.row(), 0, self.style, 0]
+        """The eight numbers of a report. No call fills the last."""
+        return [*self.row(), self.family, self.style, 0]
 
     def __repr__(self):
-        return "%d at %d size %d label %d+%d style %d" % (*self.row(), self.style)
+        return "%d at %d size %d label %d+%d family %d style %d" % (*self.row(), self.family, self.style)
 
 
 def judged(m, g):
@@ -267,10 +281,10 @@ def read(t, g, room):
     number, place, data = judged(m, g)
     if number != 0:
         return Answer(number, place, out=zeros)
-    at, length = m.start("opened"), len(m["opened"])
+    at, length, family = m.start("opened"), len(m["opened"]), family_of(m["opened"])
     if len(data) > room:
-        return Answer(10, 0, len(data), at, length, zeros)
-    return Answer(0, 0, len(data), at, length, data + bytes(room - len(data)), style_of(t))
+        return Answer(10, 0, len(data), at, length, zeros, family)
+    return Answer(0, 0, len(data), at, length, data + bytes(room - len(data)), family, style_of(t))
 
 
 def label_part(t, g):
@@ -301,7 +315,8 @@ def index(t, g, room):
         if number != 0:
             return Answer(number, place, out=zeros)
         table[0] += 1
-        table += [m.start(), m.end() - m.start(), m.start("opened"), len(m["opened"]), len(data)]
+        label_at, label_len = m.start("opened"), len(m["opened"])
+        table += [m.start(), m.end() - m.start(), label_at, label_len, len(data), family_of(m["opened"])]
         done = m.end()
     if done < len(t):
         # Over bundles; what the start has of opening and closing is asked of the message behind the whole ones.

@@ -4,6 +4,7 @@ import itertools
 import random
 from functools import lru_cache
 
+import labels
 import leaps
 import oracle
 from oracle import index, read, write
@@ -14,6 +15,11 @@ UNKNOWN = (0, 4, 257, 4294967295)
 
 def body(b):
     return b"-----BEGIN A-----\n" + b + b"-----END A-----\n"
+
+
+def labelled(opened, closed=None):
+    """M with another label, or with two."""
+    return M[:11] + opened + M[12:32] + (opened if closed is None else closed) + M[33:]
 
 
 F = b"\x66"
@@ -149,27 +155,88 @@ for g in UNKNOWN:
     assert read(M, g, 8).report() == [1, 0, 0, 0, 0, 0, 0, 0]
 assert read(M.replace(b"\n", b"\r\n"), 2, 8).report() == [0, 0, 1, 11, 1, 0, 2, 0]
 
+# Change request K6: the family of each label that has one, by its words and figure 4 of RFC 7468.
+FAMILIES = {
+    b"CERTIFICATE": 1, b"X509 CERTIFICATE": 1, b"X.509 CERTIFICATE": 1, b"X509 CRL": 2, b"CERTIFICATE REQUEST": 3,
+    b"NEW CERTIFICATE REQUEST": 3, b"PKCS7": 4, b"CMS": 5, b"PRIVATE KEY": 6, b"ENCRYPTED PRIVATE KEY": 7,
+    b"ATTRIBUTE CERTIFICATE": 8, b"PUBLIC KEY": 9,
+}
+
+
+def check_family(label):
+    """The reader tells the family of a label with room and without, and the index that of each message."""
+    family, t = FAMILIES.get(label, 0), labelled(label)
+    for g in (1, 2, 3):
+        assert read(t, g, 1).report() == [0, 0, 1, 11, len(label), family, 1, 0], (label, g)
+        assert read(t, g, 0).report() == [10, 0, 1, 11, len(label), family, 0, 0], (label, g)
+        a = index(labelled(b"CMS") + t + M + t, g, 30)
+        assert a.number == 0 and a.out[6:25:6] == [5, family, 0, family] and not any(a.out[25:]), (label, g)
+
+
+def check_no_family(number, t, grammars=(1, 2, 3)):
+    """A refusal tells no family."""
+    for g, call in itertools.product(grammars, (read, index)):
+        a = call(t, g, 8)
+        assert a.number == number and not any(a.report()[2:]) and not any(a.out), (number, t[:80], g, a)
+
+
+def check_refusals(label):
+    """Each refusal of a message with the label, but 2."""
+    t = labelled(label)
+    check_no_family(1, t, UNKNOWN)
+    check_no_family(3, t[1:])
+    check_no_family(3, t.replace(b"-----\n", b"----\n", 1))
+    check_no_family(4, t.replace(b"Z", b"."))
+    check_no_family(5, t[:-2])
+    check_no_family(6, labelled(labels.lengthened(label, 65)))
+    check_no_family(7, labelled(label, b"A"))
+    check_no_family(7, labelled(b"A", label))
+    check_no_family(8, t.replace(b"==", b"="), (1, 2))
+    check_no_family(9, t.replace(b"Zg", b"Zh"), (2, 3))
+    assert read(t.replace(b"Zg", b"Zh"), 1, 1).family == FAMILIES[label]
+
+
+assert oracle.FAMILIES == FAMILIES and len(FAMILIES) == 12 and max(map(len, FAMILIES)) == 23
+for label in FAMILIES:
+    check_family(label)
+    check_refusals(label)
+    for other in labels.near(label, labels.any_byte):
+        assert oracle.family_of(other) == FAMILIES.get(other, 0), other
+    for other in labels.near(label, labels.like):
+        if len(other) < 65 and oracle.LABEL.fullmatch(other):
+            check_family(other)
+for label in labels.OTHERS:
+    assert label not in FAMILIES
+    check_family(label)
+# Labels of one family differ, by their bytes.
+assert len(labels.EQUIVALENT) == 8
+for opened, closed in labels.EQUIVALENT:
+    check_no_family(7, labelled(opened, closed))
+    assert read(labelled(opened, closed), 1, 8).place == 31 + len(opened)
+
 # Rows of the index: a text, and for each grammar the numbers of the table or a number and a place.
-TWO = [2, 0, 39, 11, 1, 1, 39, 39, 50, 1, 1]
-JOINED = [2, 0, 38, 11, 1, 1, 38, 39, 49, 1, 1]
+ONCE = [1, 0, 39, 11, 1, 1, 0]
+TWO = [2, 0, 39, 11, 1, 1, 0, 39, 39, 50, 1, 1, 0]
+JOINED = [2, 0, 38, 11, 1, 1, 0, 38, 39, 49, 1, 1, 0]
+SPACED = [2, 0, 40, 11, 1, 1, 0, 40, 39, 51, 1, 1, 0]
+FOUR = [4, 0, 43, 11, 3, 1, 5, 43, 39, 54, 1, 1, 0, 82, 53, 93, 8, 1, 2, 135, 43, 146, 3, 1, 5]
 R = M[:-1] + b"\r"
 BUNDLES = [
     ("M twice", M + M, TWO, TWO, TWO),
     ("M without its LF, then M", M[:-1] + M, JOINED, JOINED, (5, 38)),
     ("empty", b"", [0], [0], [0]),
     ("two spaces", b"  ", (3, 2), (3, 0), (3, 0)),
-    ("M", M, [1] + TWO[1:6], [1] + TWO[1:6], [1] + TWO[1:6]),
-    ("SP before", b" " + M + M, [2, 0, 40, 12, 1, 1, 40, 39, 51, 1, 1], (3, 0), (3, 0)),
-    ("SP between", M + b" " + M, [2, 0, 40, 11, 1, 1, 40, 39, 51, 1, 1], (3, 39), (3, 39)),
+    ("M", M, ONCE, ONCE, ONCE),
+    ("SP before", b" " + M + M, [2, 0, 40, 12, 1, 1, 0, 40, 39, 51, 1, 1, 0], (3, 0), (3, 0)),
+    ("SP between", M + b" " + M, SPACED, (3, 39), (3, 39)),
     ("HT for the LF", M[:-1] + b"\t" + M, TWO, TWO, (5, 38)),
     ("VT for the LF", M[:-1] + b"\v" + M, TWO, (3, 38), (5, 38)),
-    ("LF LF between", M + b"\n" + M, [2, 0, 40, 11, 1, 1, 40, 39, 51, 1, 1], (3, 39), (3, 39)),
-    ("CRLF between", R + b"\n" + M, [2, 0, 40, 11, 1, 1, 40, 39, 51, 1, 1], [2, 0, 40, 11, 1, 1, 40, 39, 51, 1, 1],
-     [2, 0, 40, 11, 1, 1, 40, 39, 51, 1, 1]),
+    ("LF LF between", M + b"\n" + M, SPACED, (3, 39), (3, 39)),
+    ("CRLF between", R + b"\n" + M, SPACED, SPACED, SPACED),
     ("CR between", R + M, TWO, TWO, TWO),
-    ("CR CRLF between", R + b"\r\n" + M, [2, 0, 41, 11, 1, 1, 41, 39, 52, 1, 1], (3, 39), (3, 39)),
-    ("CRLF LF between", R + b"\n\n" + M, [2, 0, 41, 11, 1, 1, 41, 39, 52, 1, 1], (3, 40), (3, 40)),
-    ("white behind", M + M + b" \n", [2, 0, 39, 11, 1, 1, 39, 41, 50, 1, 1], (3, 78), (3, 78)),
+    ("CR CRLF between", R + b"\r\n" + M, [2, 0, 41, 11, 1, 1, 0, 41, 39, 52, 1, 1, 0], (3, 39), (3, 39)),
+    ("CRLF LF between", R + b"\n\n" + M, [2, 0, 41, 11, 1, 1, 0, 41, 39, 52, 1, 1, 0], (3, 40), (3, 40)),
+    ("white behind", M + M + b" \n", [2, 0, 39, 11, 1, 1, 0, 39, 41, 50, 1, 1, 0], (3, 78), (3, 78)),
     ("x behind", M + b"x", (3, 39), (3, 39), (3, 39)),
     ("x behind no LF", M[:-1] + b"x", (3, 38), (3, 38), (5, 38)),
     ("x before", b"x" + M, (3, 0), (3, 0), (3, 0)),
@@ -179,27 +246,30 @@ BUNDLES = [
     ("opening without its last hyphen behind", M + M[:16], (3, 55), (3, 55), (3, 55)),
     ("body behind", M + M[:23], (4, 62), (4, 62), (4, 62)),
     ("hyphen of a closing behind", M + M[:24], (5, 63), (5, 63), (5, 63)),
-    ("Zh== in the second", M + body(b"Zh==\n") + M, [3] + TWO[1:] + [78, 39, 89, 1, 1], (9, 58), (9, 58)),
+    ("Zh== in the second", M + body(b"Zh==\n") + M, [3] + TWO[1:] + [78, 39, 89, 1, 1, 0], (9, 58), (9, 58)),
     ("Zh== in the first, closing B in the second", body(b"Zh==\n") + M[:32] + b"B" + M[33:], (7, 71), (9, 19), (9, 19)),
     ("Zg= in the second", M + body(b"Zg=\n"), (8, 61), (8, 61), (4, 60)),
     ("closing B in the second", M + M[:32] + b"B" + M[33:], (7, 71), (7, 71), (7, 71)),
     ("closing B, then x", M[:32] + b"B" + M[33:] + b"x", (7, 32), (7, 32), (7, 32)),
     ("label of 65 in the second", M + M.replace(b"A", b"L" * 65), (6, 50), (6, 50), (6, 50)),
     ("label with two hyphens in the second", M + M.replace(b"A", b"A--B"), (3, 53), (3, 53), (3, 53)),
-    ("empty labels and data", b"-----BEGIN -----\n\n-----END -----" * 2, [2, 0, 32, 11, 0, 0, 32, 32, 43, 0, 0],
-     [2, 0, 32, 11, 0, 0, 32, 32, 43, 0, 0], (4, 17)),
+    ("empty labels and data", b"-----BEGIN -----\n\n-----END -----" * 2, [2, 0, 32, 11, 0, 0, 0, 32, 32, 43, 0, 0, 0],
+     [2, 0, 32, 11, 0, 0, 0, 32, 32, 43, 0, 0, 0], (4, 17)),
+    ("CMS, A, X509 CRL, CMS", labelled(b"CMS") + M + labelled(b"X509 CRL") + labelled(b"CMS"), FOUR, FOUR, FOUR),
+    ("SP before CMS", b" " + labelled(b"CMS") + M, [2, 0, 44, 12, 3, 1, 5, 44, 39, 55, 1, 1, 0], (3, 0), (3, 0)),
+    ("CMS, then closing B", labelled(b"CMS") + M[:32] + b"B" + M[33:], (7, 75), (7, 75), (7, 75)),
 ]
 for row in BUNDLES:
     for g in (1, 2, 3):
         want = row[1 + g]
         if isinstance(want, tuple):
             a = index(row[1], g, 20)
-            assert a.row() == want + (0, 0, 0) and a.out == [0] * 20, (row[0], g, a)
+            assert a.report() == [*want, 0, 0, 0, 0, 0, 0] and a.out == [0] * 20, (row[0], g, a)
             continue
         n = len(want)
         for room in (0, 1, n - 1, n, n + 7):
             a = index(row[1], g, room)
-            assert a.row() == (0 if n <= room else 10, 0, n, 0, 0), (row[0], g, room, a)
+            assert a.report() == [0 if n <= room else 10, 0, n, 0, 0, 0, 0, 0], (row[0], g, room, a)
             assert a.out == (want + [0] * (room - n) if n <= room else [0] * room), (row[0], g, room)
 for g in UNKNOWN:
     for t in (b"", M):
@@ -361,6 +431,12 @@ def check(t):
         check_starts(t, k, oracle.START[g])
         a = read(t, g, len(t))
         assert a.style == (style_of_marks(t) if a.number == 0 else 0), (t, g, a)
+        assert a.family == FAMILIES.get(t[a.label_at:a.label_at + a.label_len], 0), (t, g, a)
+
+
+def entries(table):
+    """The six numbers of each message."""
+    return [table[k:k + 6] for k in range(1, 1 + 6 * table[0], 6)]
 
 
 def cuts(t, g, pattern):
@@ -385,13 +461,15 @@ def check_bundle(t, search):
         if search:
             assert cuts(t, g, oracle.WHOLE[g]) == ([ends] if ok else []), (t, g)
         a = index(t, g, 99)
-        assert a.style == 0, (t, g, a)
+        assert a.report()[5:] == [0, 0, 0], (t, g, a)
+        for start, length, at, size, _, family in entries(a.out):
+            assert family == FAMILIES.get(t[at:at + size], 0), (t, g, start)
         if not ok:
             assert a.number in (3, 4, 5) and a.place == k or a.number in (6, 7, 8, 9), (t, g, a)
         # One message is a bundle with the reader's label and size; what one message refuses by 6 to 9 a bundle does too.
         b = read(t, g, len(t))
         if b.number == 0:
-            assert a.out[:6] == [1, 0, len(t), b.label_at, b.label_len, b.size], (t, g)
+            assert a.out[:7] == [1, 0, len(t), b.label_at, b.label_len, b.size, b.family], (t, g)
         elif b.number > 5:
             assert a.row() == b.row(), (t, g)
 
@@ -401,6 +479,7 @@ BASES = [row[1] for row in TABLE] + [
     line65, body(b"A" * 64 + b"\n"), body(b"A" * 64 + b"\n" + b"B" * 64 + b"\n"),
     body(b"A" * 64 + b"\nQQ==\n"), M.replace(b"\n", b"\r\n"), M.replace(b"\n", b"\r"),
     b"-----BEGIN -----\r\n\r\n-----END -----", b"-----BEGIN A-B C-----\nZm9v\n\n-----END A-B C-----\n",
+    labelled(b"CMS"), labelled(b"X509 CRL"), labelled(b"X509 CERTIFICATE"),
 ]
 PIECES = [b"-", b"-----", b" ", b"\t", b"\r", b"\n", b"\r\n", b"\v", b"\f", b"=", b"==", b"A", b"Zm9v", b"A" * 63,
           b"\xff", b"\x00", b"~", b"-----BEGIN ", b"-----END ", b"BEGIN", b"a-b", b"*"]
@@ -462,7 +541,8 @@ def check_write(label, data, style):
     assert write(label, data, style, n + 9).out == a.out + bytes(9)
     for g in (1, 2, 3):
         b = read(a.out, g, len(data))
-        assert b.report() == [0, 0, len(data), 11, len(label), 0, style, 0] and b.out == data, (label, n, style, g, b)
+        family = FAMILIES.get(label, 0)
+        assert b.report() == [0, 0, len(data), 11, len(label), family, style, 0] and b.out == data, (label, n, style, g, b)
         assert a.out[11:11 + len(label)] == label
 
 
@@ -490,9 +570,10 @@ def check_joined(items):
     t = b"".join(write(*item, size(*item)).out for item in items)
     for g in (1, 2, 3):
         a, found = index(t, g, 99), []
-        for k in range(1, a.size, 5):
-            part = t[a.out[k]:a.out[k] + a.out[k + 1]]
+        for start, length, _, _, _, family in entries(a.out):
+            part = t[start:start + length]
             b = read(part, g, len(part))
+            assert b.family == family, (items, g, start)
             found.append((part[b.label_at:b.label_at + b.label_len], b.out[:b.size], b.style))
         assert a.number == 0 and a.out[0] == len(items) and found == items, (items, g, a)
 
@@ -512,9 +593,9 @@ for n, lf, crlf in ((1, 39, 42), (48, 99, 102), (49, 104, 108)):
 for n in (32767, 32768, 32769):
     check_each_style(b"A", random.randbytes(n))
 for n in range(1, 150):
-    for label in (b"", b"A", b"L" * 63, b"L" * 64):
+    for label in (b"", b"A", b"PUBLIC KEY", b"L" * 63, b"L" * 64):
         check_each_style(label, random.randbytes(n))
-LABELS, LENGTHS = (b"", b"A", b"A-B"), (1, 2, 3, 48, 49)
+LABELS, LENGTHS = (b"", b"A-B", b"CMS", b"X509 CERTIFICATE"), (1, 2, 3, 48, 49)
 ITEMS = [(label, random.randbytes(n), style) for label in LABELS for n in LENGTHS for style in (1, 2, 3)]
 for _ in range(1000):
     check_joined(random.choices(ITEMS, k=random.randint(0, 4)))
@@ -565,22 +646,24 @@ def check_longest(label, data):
     for g in (1, 2, 3):
         a = read(t, g, len(data))
         assert a.row() == (0, 0, len(data), 11, len(label)) and a.out == data, (g, a)
-        assert index(t, g, 6).out == [1, 0, 16777216, 11, len(label), len(data)], g
+        assert index(t, g, 7).out == [1, 0, 16777216, 11, len(label), len(data), 0], g
     check_over(t[:-1] + b"\r\n")
 
 
 def check_fullest(full):
     """As many messages as the limit has room for, and white behind them up to the limit."""
     assert len(full) == 16777200
-    assert index(full, 1, 2796200).row() == (10, 0, 2796201, 0, 0)
-    assert index(full + b" " * 16, 1, 2796201).out[-5:] == [16777170, 46, 16777181, 0, 0]
+    assert index(full, 1, 3355440).row() == (10, 0, 3355441, 0, 0)
+    assert index(full + b" " * 16, 1, 3355441).out[-6:] == [16777170, 46, 16777181, 0, 0, 0]
 
 
 # The limits. A fault at the end of such a text is left to the tests in Rust: `re` takes 4 to 28 seconds for the 24 starts
 # that are tried.
 white_behind = M.ljust(16777216)
-assert read(white_behind, 1, 1).out == F and index(white_behind, 1, 6).out == [1, 0, 16777216, 11, 1, 1]
+assert read(white_behind, 1, 1).out == F and index(white_behind, 1, 7).out == [1, 0, 16777216, 11, 1, 1, 0]
 check_over(white_behind + b" ")
+check_no_family(2, labelled(b"CMS").ljust(16777217))
+assert read(labelled(b"CMS").ljust(16777216), 1, 0).report() == [10, 0, 1, 11, 3, 5, 0, 0]
 assert [read(M.ljust(16777216, end), 1, 1).style for end in (b" ", b"\n", b"\r")] == [1, 1, 4]
 check_longest(b"L" * 17, random.randbytes(258110 * 48))  # full lines, and more data than is written
 check_fullest(SHORTEST * 559240)
