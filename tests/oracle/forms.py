@@ -6,7 +6,7 @@ MARKS = {"$": 10, "%": 13, "&": 9, "(": 11, ")": 12, "*": 0, "?": 127, "`": 193,
 LETTERS = {byte: mark for mark, byte in MARKS.items()}
 RESERVED = set(MARKS) | set("@{}")
 # The most that each script may write: together what the program has room for.
-TEXT_SAMPLES, WRITE_SAMPLES = 86016, 45056
+TEXT_SAMPLES, WRITE_SAMPLES = 87296, 43776
 # What the program has for a text, a label, data or an output.
 BUFFER = 65536
 GRAMMARS = {1: "lax", 2: "standard", 3: "strict"}

@@ -7,6 +7,7 @@ import itertools
 import random
 import sys
 
+import labels
 from forms import BUFFER, TEXT_SAMPLES, Samples, examples, form, text_of
 
 samples = Samples(TEXT_SAMPLES)
@@ -28,7 +29,7 @@ def each(name, t, **more):
     put("each", name, form(t), **more)
 
 
-def index(name, t, room=20, **more):
+def index(name, t, room=24, **more):
     put("index", name, form(t), room=room, **more)
 
 
@@ -135,8 +136,8 @@ each("two-bits-1", body(b"Zm9=\n"), room=1)
 each("Zm8=", body(b"Zm8=\n"), room=1)
 
 comment("Labels.")
-each("label-64", message(b"L" * 64, b"Zg==\n"))
-each("label-65", message(b"L" * 65, b"Zg==\n"))
+each("label-64", message(labels.lengthened(b"CERTIFICATE", 64), b"Zg==\n"))
+each("label-65", message(labels.lengthened(b"CERTIFICATE", 65), b"Zg==\n"))
 each("label-empty", message(b"", b"Zg==\n"))
 each("label-A-B", message(b"A-B", b"Zg==\n"))
 each("label-A-SP-B", message(b"A B", b"Zg==\n"))
@@ -285,6 +286,20 @@ for usual, odd in itertools.product(ENDS, ENDS):
         full_lines(name + "-last-full", start, e, many, full, o, group, end, e)
         full_lines(name + "-last", start, e, many, form(GROUP), o, end, e)
 
+comment("Families with no room, and refusals of a label that has one. Near ones are in the second half.")
+for k, label in enumerate(labels.KNOWN, 1):
+    put(str(1 + k % 3), "known-%d" % k, form(message(label, b"Zg==\n")), room=0)
+CMS = message(b"CMS", b"Zg==\n")
+put("0", "CMS", form(CMS), room=8)
+each("CMS-four-hyphens", CMS[1:], room=8)
+each("CMS-dot", message(b"CMS", b"Zg.\n"), room=8)
+each("CMS-cut", CMS[:-2], room=8)
+each("CMS-closing", message(b"CMS", b"Zg==\n", b"CMs"), room=8)
+each("CMS-counts", message(b"CMS", b"Zg=\n"), room=8)
+each("CMS-spare-bits", message(b"CMS", b"Zh==\n"), room=8)
+each("CMS-white-before", b"\t\n" + CMS, room=8)
+each("closing-of-the-family", message(b"CERTIFICATE", b"Zg==\n", b"X509 CERTIFICATE"), room=8)
+
 comment("Texts of 65,536 bytes, and of one less.")
 long("each", "white-before", b"", b" ", M)
 long("each", "white-behind", M, b" ")
@@ -366,23 +381,23 @@ index("two-spaces", b"  ")
 index("M", M)
 
 comment("The room of the table.")
-for room in (11, 10, 6, 1, 0):
+for room in (13, 12, 7, 1, 0):
     index("M-twice", M + M, room=room)
 for room in (1, 0):
     index("empty-text", b"", room=room)
+index("M", M, room=7)
 index("M", M, room=6)
-index("M", M, room=5)
 index("closing-B-and-room", message(b"A", b"Zg==\n", b"B"), room=0)
 index("x-behind-and-room", M + b"x", room=0)
 
 comment("Grammars that are not known, and texts of 65,536 bytes.")
 for g in (0, 4, 257, 4294967295):
-    put("table%d" % g, "M-twice", form(M + M), room=11)
+    put("table%d" % g, "M-twice", form(M + M), room=13)
 put("table0", "empty-text", "", room=0)
 long("table4", "white-behind", M, b" ", room=8)
-long("index", "white-before", b"", b" ", M + M, room=11)
-long("index", "white-between", M, b" ", M, room=11)
-long("index", "blanks-behind", M + NO_LF, b"\t", b"\n", room=11)
+long("index", "white-before", b"", b" ", M + M, room=13)
+long("index", "white-between", M, b" ", M, room=13)
+long("index", "blanks-behind", M + NO_LF, b"\t", b"\n", room=13)
 
 comment("Messages of all lengths, and who owns what stands between them.")
 CRLF, CR = M.replace(b"\n", b"\r\n"), M.replace(b"\n", b"\r")
@@ -419,8 +434,8 @@ index("no-data-between", M + body(b"") + M)
 index("labels-and-sizes", message(b"A-B C", b"Zm9v\n") + message(b"", FULL + b"\nZm8=\n") + message(b"x.y", FULL + b"\n"))
 
 comment("What the second message is refused for, or the first before it.")
-index("label-64", M + message(b"L" * 64, b"Zg==\n"))
-index("label-65", M + message(b"L" * 65, b"Zg==\n") + M)
+index("label-64", M + message(labels.lengthened(b"CMS", 64), b"Zg==\n"))
+index("label-65", M + message(labels.lengthened(b"CMS", 65), b"Zg==\n") + M)
 index("label-A--B", M + message(b"A--B", b"Zg==\n") + M)
 index("label-A-SP", M + message(b"A ", b"Zg==\n") + M)
 index("labels-differ", M + message(b"A", b"Zg==\n", b"B") + M)
@@ -453,23 +468,37 @@ index("six-hyphens", M + b"-" + M)
 index("text-between", M + b"subject=A\n" + M)
 index("x-before", b"x" + M)
 
+comment("Families of several messages: those that the examples lack, ones near to them, and three by turns.")
+
+
+def families(name, *found, **more):
+    """Messages with these labels."""
+    index("families-" + name, b"".join(message(label, b"Zg==\n") for label in found), **more)
+
+
+families("others", b"CMS", b"PRIVATE KEY", b"", b"ENCRYPTED PRIVATE KEY", b"CRL", b"PUBLIC KEY", room=48)
+families("near", b"CMS", b"CMs", b"CM", b"CMSS", b"CMS", b"PKCS7", b"CMS-A", room=48)
+families("no-room", b"CMS", b"A", room=12)
+index("families-closing", CMS + message(b"NEW CERTIFICATE REQUEST", b"Zg==\n", b"CERTIFICATE REQUEST"))
+put("index", "families-by-turns", "{" + form(CMS + M + message(b"PUBLIC KEY", b"Zg==\n")) + "}", room=400, count=20)
+
 comment("Every start of bundles of two.")
-put("starts", "M-M", form(M + M), room=16)
-put("starts", "CRLF-no-LF", form(CRLF + NO_LF), room=11)
-put("starts", "VT-A-B-M", form(b"\v" + message(b"A-B", b"\nZm8=\n\n") + b" \r\n" + M), room=16)
+put("starts", "M-M", form(M + M), room=19)
+put("starts", "CRLF-no-LF", form(CRLF + NO_LF), room=13)
+put("starts", "VT-A-B-M", form(b"\v" + message(b"A-B", b"\nZm8=\n\n") + b" \r\n" + M), room=19)
 
 comment("Texts of 65,536 bytes full of messages.")
 SMALL = form(b"-----BEGIN ----------END -----")
-put("table1", "full-30", "{" + SMALL + "}" + "$" * 16, room=10921, count=2184)
-put("table1", "full-30", "{" + SMALL + "}" + "$" * 16, room=10920, count=2184)
-put("table1", "full-30-x", "{" + SMALL + "}" + "$" * 15 + "x", room=10921, count=2184)
-put("table1", "full-30-cut", "{" + SMALL + "}" + SMALL[:16], room=10921, count=2184)
+put("table1", "full-30", "{" + SMALL + "}" + "$" * 16, room=13105, count=2184)
+put("table1", "full-30", "{" + SMALL + "}" + "$" * 16, room=13104, count=2184)
+put("table1", "full-30-x", "{" + SMALL + "}" + "$" * 15 + "x", room=13105, count=2184)
+put("table1", "full-30-cut", "{" + SMALL + "}" + SMALL[:16], room=13105, count=2184)
 LINES = "-----BEGIN FULL-----$" + (FULL.decode() + "$\n") * 7 + "AQIDBAUGBwgJCgsM$-----END FULL-----$"
-put("index", "full-512", "{" + LINES + "}", room=642, count=128)
+put("index", "full-512", "{" + LINES + "}", room=770, count=128)
 
 comment("Bundles of the examples.")
-put("index", "draft-all", "\n" + "".join(example for _, example in drafts), room=46)
+put("index", "draft-all", "\n" + "".join(example for _, example in drafts), room=55)
 for i, k in ((3, 4), (4, 8), (9, 3)):
-    put("index", "draft-%d-%d" % (i, k), "\n" + drafts[i - 1][1] + drafts[k - 1][1], room=12)
+    put("index", "draft-%d-%d" % (i, k), "\n" + drafts[i - 1][1] + drafts[k - 1][1], room=14)
 
 sys.stdout.write(samples.text())

@@ -6,6 +6,7 @@ import itertools
 import random
 import sys
 
+import labels
 import oracle
 from forms import BUFFER, RESERVED, WRITE_SAMPLES, Samples, examples, form, text_of
 
@@ -53,9 +54,9 @@ write("label-65-words", b"A-B C.D " * 8 + b"A")
 
 comment("What a label may be.")
 for name, label in (
-    ("A-B", b"A-B"), ("A-SP-B", b"A B"), ("A-B-SP-C-D", b"A-B C-D"), ("words", b"a-b c.d-e f"), ("lower", b"certificate"),
+    ("A-B", b"A-B"), ("A-SP-B", b"A B"), ("A-B-SP-C-D", b"A-B C-D"), ("words", b"a-b c.d-e f"),
     ("exclamation", b"!"), ("comma", b","), ("dot", b"."), ("tilde", b"~"), ("edges", b"!,.~"), ("slash", b"/"), ("equals", b"="),
-    ("digits", b"0-9 0"), ("BEGIN", b"BEGIN A"), ("END", b"END"), ("X509-CRL", b"X509 CRL"),
+    ("digits", b"0-9 0"), ("BEGIN", b"BEGIN A"), ("END", b"END"),
 ):
     back("label-" + name, label)
 for name, label in (
@@ -67,6 +68,19 @@ for name, label in (
     ("64-hyphen", b"L" * 63 + b"-"), ("64-SP", b"L" * 63 + b" "), ("hyphen-64", b"-" + b"L" * 63), ("SP-64", b" " + b"L" * 63),
 ):
     write("no-label-" + name, label)
+
+comment("Families: labels that have one; a byte less or more at the end, at the front of some, and lower case.")
+for k, label in enumerate(labels.KNOWN, 1):
+    for name, near in (("known", label), ("less", label[:-1]), ("more", label + b"S"), ("lower", label.lower())):
+        back("%s-%d" % (name, k), near, room=99)
+    if k % 2:
+        back("front-%d" % k, label[1:] if k % 4 == 1 else b"S" + label, room=99)
+back("CRL", b"CRL")
+
+comment("Another byte in each place. Each label has it in one place or more.")
+for place in range(max(map(len, labels.KNOWN))):
+    longer = [label for label in sorted(labels.KNOWN, key=len) if place < len(label)]
+    back("place-%d" % place, labels.changed(longer[place % len(longer)], place, ord("Z")), room=99)
 
 comment("Data of 0 to 48,369 bytes, and their room: exact, one less, one more, many more, none.")
 for n in (*range(7), 46, 47, 48, 49, 50, 95, 96, 97, 143, 144, 145, 256, 512, 513, *range(32767, 32770), *range(48367, 48370)):
