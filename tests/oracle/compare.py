@@ -1,12 +1,14 @@
 """Compares the linked archive with the oracle on random texts and bundles: valid, damaged by up to three edits, and soups
 of marks; some of them in lines long enough to leap, damaged where a leap begins or ends; the write call on random labels,
-valid and damaged, data of many lengths, and styles, known and unknown. A few texts have white behind them up to the limit or
-one byte over it, and a few data are as long as may be written or one byte longer. With `leaps` it goes through all that
-`leaps.py` makes, which takes minutes.
+valid and damaged, data of many lengths, and styles, known and unknown. Many labels have a family or are near to one that
+has. A few texts have white behind them up to the limit or one byte over it, and a few data are as long as may be written or
+one byte longer. With `leaps` it goes through all that `leaps.py` makes, which takes minutes; with `labels` through all that
+`labels.py` makes, with any other byte in each place, and through each two labels of families in one message.
 
     rt staticlib zullifern
     python3 compare.py target/staticlib/libzullifern.a SEED COUNT
     python3 compare.py target/staticlib/libzullifern.a leaps
+    python3 compare.py target/staticlib/libzullifern.a labels
 
 The lent output, table and report are filled with old values first; output and table are guarded at both ends. What was
 written is read back, and what was read of a strict text is written in the style that was found.
@@ -17,12 +19,16 @@ import random
 import re
 import sys
 
+import labels
 import leaps
 import oracle
 from archive import called, indexed, loaded, written
 
 # How often a message is in lines long enough to leap, how often data are long, and how often a text or data are at a limit.
 LINED, LONG, LIMIT = 0.25, 0.005, 0.0005
+# How often a label of a text, and one to write, has a family or is near to one that has.
+FAMILIAR, FAMILIAR_WRITTEN = 0.5, 0.25
+NEAR = {label: list(labels.near(label, labels.like)) for label in labels.KNOWN}
 # How much of each part a disagreement shows.
 SHOWN = 5000
 WHITE = [b" ", b"\t", b"\r", b"\n", b"\x0b", b"\x0c"]
@@ -50,8 +56,15 @@ class Texts:
     def line_end(self):
         return self.random.choice([b"\n", b"\n", b"\r\n", b"\r"])
 
+    def familiar(self):
+        """A label that has a family, or what is near to it."""
+        label = self.random.choice(labels.KNOWN)
+        return label if self.random.random() < 0.5 else self.random.choice(NEAR[label])
+
     def label(self):
-        return self.random.choice([b"A", b"", b"A-B", b"A B", b"CERTIFICATE", b"A" * self.random.choice([1, 63, 64, 65]), b"a!~"])
+        if self.random.random() < FAMILIAR:
+            return self.familiar()
+        return self.random.choice([b"A", b"", b"A-B", b"A B", b"CRL", b"A" * self.random.choice([1, 63, 64, 65]), b"a!~"])
 
     def lax_body(self):
         body = b"".join(self.random.choice([self.random.choice(WHITE), self.characters(2)]) for _ in range(self.random.randint(0, 8)))
@@ -151,6 +164,8 @@ class Texts:
 
     def any_label(self):
         """Words with a hyphen, a space or nothing between them, of 64 bytes at most or not, and then damaged or not."""
+        if self.random.random() < FAMILIAR_WRITTEN:
+            return self.familiar()
         label = b""
         for _ in range(self.random.choice([0, 1, 2, 3, 4, 20])):
             word = bytes(self.random.choices(LABEL_BYTES, k=self.random.randint(1, 8)))
@@ -223,9 +238,10 @@ def compare_write(library, label, data, style, room):
     a = oracle.write(label, data, style, room)
     want = (a.number, a.report(), a.out)
     agree(written(library, label, data, style, room), want, label, data, style, room)
+    family = oracle.family_of(label)
     for grammar in (1, 2, 3) if a.number == 0 else ():
         number, report, out, *_ = called(library, a.out[:a.size], grammar, len(data))
-        agree((number, report[2:], out), (0, [len(data), 11, len(label), 0, style, 0], data), label, style, grammar)
+        agree((number, report[2:], out), (0, [len(data), 11, len(label), family, style, 0], data), label, style, grammar)
     return a.number
 
 
@@ -236,19 +252,26 @@ def compare_order(library):
         yield compare_write(library, *given)
 
 
+def shown(counts):
+    return dict(sorted(counts.items()))
+
+
 class Answers:
-    """How often each number was read, and each style where the text was accepted."""
+    """How often each number was read, each style where the text was accepted, and each family where one may be told."""
 
     def __init__(self):
-        self.numbers, self.styles = collections.Counter(), collections.Counter()
+        self.numbers, self.styles, self.families = collections.Counter(), collections.Counter(), collections.Counter()
 
     def add(self, a):
         self.numbers[a.number] += 1
         if a.number == 0:
             self.styles[a.style] += 1
+        if a.number in (0, 10):
+            self.families[a.family] += 1
 
     def __str__(self):
-        return "by number: %s, accepted by style: %s" % tuple(dict(sorted(counts.items())) for counts in (self.numbers, self.styles))
+        return "by number: %s, accepted by style: %s, with 0 or 10 by family: %s" % (
+            shown(self.numbers), shown(self.styles), shown(self.families))
 
 
 def compare_random(library, seed, count):
@@ -257,16 +280,16 @@ def compare_random(library, seed, count):
     for _ in range(count):
         text, bundle = texts.text(), texts.bundle()
         read.add(compare_read(library, text, texts.grammar(), texts.read_room(text)))
-        index[compare_index(library, text, texts.grammar(), texts.random.choice([0, 1, 5, 6, 7]))] += 1
-        index[compare_index(library, bundle, texts.grammar(), texts.random.choice([0, 1, 6, 10, 11, 16, 21, 30]))] += 1
+        index[compare_index(library, text, texts.grammar(), texts.random.choice([0, 1, 6, 7, 8]))] += 1
+        index[compare_index(library, bundle, texts.grammar(), texts.random.choice([0, 1, 7, 12, 13, 19, 25, 30]))] += 1
         grammar = sound.random.choice([1, 2, 3])
         text = sound.mostly_sound(grammar)
         read.add(compare_read(library, text, grammar, sound.read_room(text)))
         label, data, style = pairs.any_label(), pairs.data(), pairs.style()
         write[compare_write(library, label, data, style, pairs.write_room(label, data, style))] += 1
     print(2 * count, "texts read,", read)
-    print(2 * count, "texts indexed, by number:", dict(sorted(index.items())))
-    print(sum(write.values()), "labels and data written, by number:", dict(sorted(write.items())))
+    print(2 * count, "texts indexed, by number:", shown(index))
+    print(sum(write.values()), "labels and data written, by number:", shown(write))
 
 
 def compare_leaps(library):
@@ -279,17 +302,40 @@ def compare_leaps(library):
         for grammar in (1, 2, 3):
             for room in (next(rooms), max(0, size + next(around))):
                 read[grammar].add(compare_read(library, text, grammar, room))
-            index[grammar][compare_index(library, text, grammar, 6)] += 1
+            index[grammar][compare_index(library, text, grammar, 7)] += 1
     for grammar in (1, 2, 3):
-        print("grammar", grammar, "read,", read[grammar], "indexed:", dict(sorted(index[grammar].items())))
+        print("grammar", grammar, "read,", read[grammar], "indexed:", shown(index[grammar]))
         assert {0, 3, 4, 5, 10} <= set(read[grammar].numbers) and {0, 3, 4, 5} <= set(index[grammar])
         assert {1, 2, 3, 4} <= set(read[grammar].styles)
+
+
+def labelled(opened, closed):
+    return b"-----BEGIN " + opened + b"-----\nZg==\n-----END " + closed + b"-----\n"
+
+
+def compare_labels(library):
+    """Labels that have a family and others under each grammar, and labels near to one that has under each by turns: a message by
+    itself, with room and without, and among others. Then each two of families, opening and closing the same message."""
+    read, index, grammars = Answers(), collections.Counter(), itertools.cycle((1, 2, 3))
+    known = (label for label in labels.KNOWN + labels.OTHERS for _ in range(3))
+    near = (other for label in labels.KNOWN for other in labels.near(label, labels.any_byte))
+    same = ((label, label) for label in itertools.chain(known, near))
+    for opened, closed in itertools.chain(same, itertools.product(labels.KNOWN, repeat=2)):
+        text, grammar = labelled(opened, closed), next(grammars)
+        bundle = labelled(b"CMS", b"CMS") + text + labelled(b"PUBLIC KEY", b"PUBLIC KEY") + text
+        for room in (0, 1):
+            read.add(compare_read(library, text, grammar, room))
+        index[compare_index(library, bundle, grammar, 25)] += 1
+    print("labels read,", read, "indexed:", shown(index))
+    assert set(read.families) == set(range(10)) and {0, 3, 6, 7, 10} <= set(read.numbers)
 
 
 def main():
     library, arguments = loaded(sys.argv[1]), sys.argv[2:]
     if arguments == ["leaps"]:
         compare_leaps(library)
+    elif arguments == ["labels"]:
+        compare_labels(library)
     else:
         seed, count = map(int, arguments)
         compare_random(library, seed, count)
