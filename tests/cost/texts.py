@@ -7,6 +7,7 @@ for each of their bytes; refusals that come last; and length where there is usua
 """
 import typing
 
+import labels
 import oracle
 from oracle import ALPHABET, DATA_LIMIT, LABEL_LIMIT
 
@@ -35,6 +36,12 @@ LONG = b"-----BEGIN FULL-----\n" + 7 * LINE + b"AQIDBAUGBwgJCgsM\n-----END FULL-
 # The longest labels: of characters alone, and with a hyphen or a space between each two of them.
 LABEL, HYPHENS, SPACES = b"A" * LABEL_LIMIT, b"A-" * (LABEL_LIMIT // 2 - 1) + b"A", b"A " * (LABEL_LIMIT // 2 - 1) + b"A"
 LABELLED = b"-----BEGIN " + LABEL + b"-----\n"
+# Numbers of a table for each message.
+ENTRY = 6
+# Of the labels that the library knows the longest, one that begins with it, and one that differs from it in its last byte alone.
+KNOWN = max(labels.KNOWN, key=len)
+LIKE_KNOWN, UNLIKE_KNOWN = labels.lengthened(KNOWN), KNOWN[:-1] + b"S"
+LIKE_KNOWN_BEGIN, LIKE_KNOWN_END = b"-----BEGIN " + LIKE_KNOWN + b"-----\n", b"-----END " + LIKE_KNOWN + b"-----\n"
 # Bytes of a label that look like a boundary's.
 HALVES = b"A-BEGIN A-END "
 # Messages in which hardly two neighbours are of one kind.
@@ -66,9 +73,9 @@ def labelled(label, end=LF):
     return b"-----BEGIN " + label + b"-----" + end + b"Zg==" + end + b"-----END " + label + b"-----" + end
 
 
-def bare(width):
+def bare(width, label=b""):
     """A lax message with nothing but so many characters between its boundaries."""
-    return b"-----BEGIN -----" + ALPHABET[:width] + b"-----END -----"
+    return b"-----BEGIN " + label + b"-----" + ALPHABET[:width] + b"-----END " + label + b"-----"
 
 
 def long_label(unit):
@@ -134,10 +141,12 @@ READ_STRICT = [
     Family("long label, hyphens", long_label(b"A-"), 6),
     Family("long label, spaces", long_label(b"A "), 6),
     Family("long label, halves of boundaries", long_label(HALVES), 6),
+    Family("long label, a known one again and again", long_label(KNOWN + b" "), 6),
     Family("long closing label", (BEGIN, PADDED, b"-----END ", DUE, [b"A"], b"-----\n"), 7),
     Family("unfinished label", (b"-----BEGIN ", [b"A"], DUE), 3),
     Family("unfinished label, hyphens", (b"-----BEGIN ", [b"A-"], DUE), 3),
     Family("unfinished label, spaces", (b"-----BEGIN ", [b"A "], DUE), 3),
+    Family("label of 64 that begins like a known one", (LIKE_KNOWN_BEGIN, [LINE], LIKE_KNOWN_END)),
     Family("output one byte too small", (BEGIN, [LINE], END), 10, room=lambda n: lines_in(n) * len(LINE_DATA) - 1),
     Family("short text, long output", (SHORT,), room=lambda n: n),
 ]
@@ -241,6 +250,10 @@ INDEX_STRICT = [
     Family("labels of 64", ([labelled(LABEL)],)),
     Family("labels of 63, hyphens", ([labelled(HYPHENS)],)),
     Family("labels of 63, spaces", ([labelled(SPACES)],)),
+    Family("each known label by turns", ([b"".join(map(labelled, labels.KNOWN))],)),
+    Family("labels CERTIFICATE", ([labelled(b"CERTIFICATE")],)),
+    Family("labels unlike the longest known in one byte", ([labelled(UNLIKE_KNOWN)],)),
+    Family("labels of 64 that begin like a known one", ([labelled(LIKE_KNOWN)],)),
     Family("one message", (BEGIN, [LINE], END)),
     Family("wrong last byte", ([SHORT], DUE, b"A"), 3),
     Family("last message cut in its opening", ([SHORT], b"-----BEGIN", DUE), 3),
@@ -251,7 +264,7 @@ INDEX_STRICT = [
     Family("spare bits at the end", ([SHORT], BEGIN, b"Z", DUE, b"h==\n", END), 9),
     Family("long label, hyphens", (SHORT, *long_label(b"A-")), 6),
     Family("unfinished label, spaces", (SHORT, b"-----BEGIN ", [b"A "], DUE), 3),
-    Family("table one number too small", ([SHORT],), 10, room=lambda n: n // len(SHORT) * 5),
+    Family("table one number too small", ([SHORT],), 10, room=lambda n: n // len(SHORT) * ENTRY),
     Family("no table", ([SHORT],), 10, room=lambda n: 0),
     Family("short text, long table", (SHORT,), room=lambda n: n // 4),
 ]
@@ -271,6 +284,8 @@ INDEX_LAX = [
     Family("empty messages", ([EMPTY],)),
     Family("empty messages, a white of each kind between", ([b"".join(EMPTY + white for white in WHITE)],)),
     Family("motley messages", ([MOTLEY_LAX],)),
+    Family("empty messages, each known label by turns", ([b"".join(bare(0, label) for label in labels.KNOWN)],)),
+    Family("empty messages, labels CMS", ([bare(0, b"CMS")],)),
     *[Family(f"messages of {width} characters", ([bare(width)],)) for width in [4, 12, 16, 60, 64]],
     Family("a blank behind each 1", (BEGIN, [runs(1, b" ")], END)),
     Family("a blank behind each 3", (BEGIN, [runs(3, b" ")], END)),
@@ -283,6 +298,8 @@ INDEX_LAX = [
     Family("last message unfinished", ([EMPTY], b"-----BEGIN -----", DUE), 4),
     Family("last message long and unfinished", (SHORT, OPENING, [GROUP], DUE), 4),
     Family("last labels differ", ([EMPTY], EMPTY[:-5], DUE, b"A-----"), 7),
+    Family("last labels differ and count as the same",
+           ([EMPTY], b"-----BEGIN X509 CERTIFICATE----------END ", DUE, b"CERTIFICATE-----"), 7),
 ]
 
 WRITE = [
