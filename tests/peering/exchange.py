@@ -3,6 +3,7 @@ import collections
 import itertools
 
 import tools
+from oracle import family_of
 from ours import STYLES
 
 BUNDLE_COUNTS = [1, 2, 5, 40]
@@ -87,6 +88,8 @@ def read_by_us(tally, ours, peer, thing):
     tally.check(f"we read what {peer.name} wrote, under each grammar", thing.kind, ours.under_each(ours.read, text),
                 wanted, thing.name)
     tally.check(f"we found LF alone in what {peer.name} wrote", thing.kind, ours.style(text), STYLES["LF"], thing.name)
+    tally.check(f"we told the family of what {peer.name} wrote, under each grammar", thing.kind,
+                ours.under_each(ours.family, text), [family_of(label)] * 3, thing.name)
 
 
 def all_lengths(tally, things):

@@ -6,7 +6,7 @@ from archive import called, indexed, written
 GRAMMARS = {"lax": 1, "standard": 2, "strict": 3}
 STYLES = {"LF": 1, "CRLF": 2, "CR": 3}
 SHORTEST_MESSAGE = 30  # the two boundaries of an empty label
-NUMBERS_PER_MESSAGE = 5
+NUMBERS_PER_MESSAGE = 6
 
 # Number and place as answered; messages are pairs of label and data, empty on a refusal.
 Answer = collections.namedtuple("Answer", "number place messages")
@@ -32,6 +32,10 @@ class Ours:
         """The number of the style that strict finds in a text."""
         return called(self.library, text, GRAMMARS["strict"], len(text))[1][6]
 
+    def family(self, text, grammar):
+        """The number of the family that a text's label has."""
+        return called(self.library, text, grammar, len(text))[1][5]
+
     def under_each(self, call, text):
         return [call(text, grammar) for grammar in GRAMMARS.values()]
 
@@ -56,9 +60,9 @@ class Ours:
 
     def entry(self, text, grammar, numbers):
         """The message of an entry, which read has to see alike."""
-        start, length, label_at, label_length, size = numbers
-        answer = self.read(text[start:start + length], grammar)
-        (label, data), = answer.messages
-        if label != text[label_at:label_at + label_length] or len(data) != size:
+        start, length, label_at, label_length, size, family = numbers
+        part = text[start:start + length]
+        (label, data), = self.read(part, grammar).messages
+        if label != text[label_at:label_at + label_length] or len(data) != size or family != self.family(part, grammar):
             raise AssertionError(f"index and read differ in the message at {start}")
         return label, data

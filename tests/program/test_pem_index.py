@@ -25,7 +25,8 @@ SHORTEST = b"-----BEGIN ----------END -----"
 # What the program takes. The library's limit is higher, so the program refuses more by itself.
 INPUT_LIMIT = 65536
 TOO_LONG = b"2 0\n"
-TABLE_SIZE = 1 + 5 * (INPUT_LIMIT // len(SHORTEST))
+ENTRY = 6
+TABLE_SIZE = 1 + ENTRY * (INPUT_LIMIT // len(SHORTEST))
 USAGE = b"pem_index: give one grammar (lax, standard, strict or a number) and the text on standard input\n"
 UNREADABLE = b"pem_index: standard input cannot be read\n"
 TEXTS = [
@@ -43,6 +44,8 @@ TEXTS = [
     MESSAGE.replace(b"END A", b"END B"),
     MESSAGE.replace(b"A", b"A" * 65),
     MESSAGE.replace(b"A", b"X509 CRL"),
+    b"".join(MESSAGE.replace(b"A", label) for label in oracle.FAMILIES),
+    MESSAGE.replace(b"A", b"CERTIFICATE").replace(b"END ", b"END X509 "),
     MESSAGE.replace(b"A", b""),
     MESSAGE.replace(b"\n", b"\r\n"),
     b" \t" + MESSAGE,
@@ -61,14 +64,14 @@ TEXTS = [
 
 
 def lines(text, grammar):
-    """What the program has to print: by the oracle, but for its own limit."""
+    """What the program has to print: by the oracle, but for its own limit, and without the families."""
     if len(text) > INPUT_LIMIT:
         return TOO_LONG
     answer = oracle.index(text, grammar, TABLE_SIZE)
     if answer.number:
         return b"%d %d\n" % (answer.number, answer.place)
-    entries = [answer.out[1 + 5 * k:6 + 5 * k] for k in range(answer.out[0])]
-    return b"".join(b"%d %d %s %d\n" % (start, length, text[at:at + size], data) for start, length, at, size, data in entries)
+    entries = [answer.out[1 + ENTRY * k:1 + ENTRY * (k + 1)] for k in range(answer.out[0])]
+    return b"".join(b"%d %d %s %d\n" % (start, length, text[at:at + size], data) for start, length, at, size, data, _ in entries)
 
 
 def run(program, *words, **streams):
