@@ -8,7 +8,7 @@ use native.Mathlib.Omega.{arith}
 use lib.Dec.{eqb}
 use lib.ListN.{length, drop, getD, replicate, drop-of-length-le}
 use lib.Seq.{drop-cons}
-use borrow.Author.Tests.{eq-eqb, ne-eqb, eqb-true, eqb-false}
+use borrow.Author.Tests.{ne-eqb, eqb-true, eqb-false}
 use Rattle.base64.specs.Lists.{All, sameBytes}
 use Rattle.base64.proofs.Lists.{same-lengths}
 use Rattle.families.specs.Arrays.{arrayLength, padded, unpadded}

@@ -86,7 +86,7 @@ pub record Samples : Type 0 where
   pub fullLastLine : Message Strict (around (10 ∷ (replicate 64 65 ++ (10 ∷ [])))) (65 ∷ []) (replicate 48 0)
   -- a first line of 65 characters, whatever follows it
   pub longLine : (rest label content : List ℕ) → ¬ Message Strict (beginA ++ (10 ∷ (replicate 65 65 ++ rest))) label content
-  -- M once and twice, under every grammar
+  -- M once and twice, under every grammar (K6; before it, five numbers for each message)
   pub once : (g : Grammar) → Bundle g M (itemA ∷ []) (1 ∷ 0 ∷ 39 ∷ 11 ∷ 1 ∷ 1 ∷ 0 ∷ [])
   pub twice : (g : Grammar) → Bundle g (M ++ M) (itemA ∷ itemA ∷ []) (2 ∷ 0 ∷ 39 ∷ 11 ∷ 1 ∷ 1 ∷ 0 ∷ 39 ∷ 39 ∷ 50 ∷ 1 ∷ 1 ∷ 0 ∷ [])
   -- M without its LF, then M: under standard, and so under lax, but not under strict

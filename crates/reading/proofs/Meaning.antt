@@ -23,7 +23,6 @@ use Rattle.grammar.proofs.Message.{reading-unique}
 use Rattle.grammar.specs.declared.LineStyle.{LineStyle}
 use Rattle.machine.proofs.Machine.{partOf}
 use Rattle.machine.specs.declared.Part.{Part}
-use Rattle.machine.specs.declared.Part.the-variants as part
 use Rattle.reading.specs.Limits.{textLimit}
 use Rattle.reading.specs.Meaning as rows
 use Rattle.reading.specs.Meaning.{labelStart, Admitted, Parsed, Broken, Passed, Refuses, foundOf, Reads, HandsBack}
