@@ -2,7 +2,7 @@
 use mathlib.Core.Path.{_≡_, refl, sym, _∙_}
 use Prim.Native.Nat.{_-_, _≤_}
 use native.Mathlib.Omega.{arith}
-use lib.ListN.{drop}
+use lib.ListN.{length, drop}
 use borrow.Author.Needs.{needs}
 use Rattle.grammar.specs.Families.{knownLabels, familyIn, familyOf}
 use Rattle.families.proofs.Table.{row-long, row-found, row-passed, none-left}
@@ -10,10 +10,10 @@ use Rattle.families.proofs.family_of.Statement.{statement}
 use Rattle.families.proofs.family_of.Tie as tie
 
 abbrev Inv-loop : tie.InvT-loop
-Inv-loop label known i₀ i = (i ≤ 12) × (familyIn (drop i knownLabels) label ≡ familyOf label)
+Inv-loop label known i₀ i = (i ≤ length knownLabels) × (familyIn (drop i knownLabels) label ≡ familyOf label)
 
 abbrev μ-loop : tie.MeasureT-loop
-μ-loop label known i₀ i = 12 - i
+μ-loop label known i₀ i = length knownLabels - i
 
 loop-holds : tie.Need-loop-holds Inv-loop μ-loop
 loop-holds c = (omega arith, refl)
