@@ -1,6 +1,6 @@
 """Counts what each call costs by the length of its text: instructions, by valgrind's callgrind, and the bytes of stack that it
 touches. Instructions should grow with the length and no faster, whatever the text is made of, and the stack not at all.
-Run by hand: it passes or fails nothing by what it counts. That a text is what its family says is asserted: by the oracle for
+Run by hand: it passes or fails nothing by what it counts. That a text is what its series says is asserted: by the oracle for
 the shortest, and by the number and the place of the answer for each.
 
     rt staticlib zullifern
@@ -9,7 +9,7 @@ the shortest, and by the number and the place of the answer for each.
 LONGEST is the longest length that is tried, 1048576 where it is not given: that takes one to two minutes on two cores, and all
 lengths, with 16777216, some fifteen times as long. As many calls run at once as there are cores.
 
-Each family has a row: the number that a read, index or write answers, the instructions for each byte at each length, their
+Each series has a row: the number that a read, index or write answers, the instructions for each byte at each length, their
 growth from the shortest to the longest, and the stack. The bytes are those of the text or of what is lent, whichever are more.
 Clearing may count as one instruction for each byte, since valgrind counts each turn of a repeated one.
 """
@@ -28,7 +28,7 @@ TESTS = os.path.dirname(HERE)
 INCLUDE = os.path.join(os.path.dirname(TESTS), "include")
 sys.path.insert(0, os.path.join(TESTS, "oracle"))
 import oracle
-from texts import FAMILIES, Family, due_at, given
+from texts import SERIES, Series, due_at, given
 
 LENGTHS = [65536, 1048576, oracle.TEXT_LIMIT]
 USUAL_LONGEST = 1048576
@@ -45,7 +45,7 @@ TOOLS = ["valgrind", "gcc", "nm"]
 class Case(typing.NamedTuple):
     call: str
     grammar: int
-    family: Family
+    series: Series
 
 
 class Count(typing.NamedTuple):
@@ -96,7 +96,7 @@ def instructions(words, call, content, seconds):
 def answered(case, label, content, lent):
     """The oracle's answer; for the label call that of a read with enough room."""
     if case.call == "write":
-        return oracle.write(label, content, case.family.style, lent)
+        return oracle.write(label, content, case.series.style, lent)
     if case.call == "index":
         return oracle.index(content, case.grammar, lent // TABLE_NUMBER)
     return oracle.read(content, case.grammar, lent if case.call == "read" else len(content))
@@ -108,10 +108,10 @@ def told(case, answer):
 
 
 def check(case, n, label, content, lent, report):
-    """That the input is what its family says, and the report what the oracle says where that is asked."""
-    due = [case.family.number, due_at(case.family.parts, n)]
+    """That the input is what its series says, and the report what the oracle says where that is asked."""
+    due = [case.series.number, due_at(case.series.parts, n)]
     if case.call == "label":
-        assert (report[LABEL_LENGTH] > 0) == (case.family.number == 0), (case, n, report)
+        assert (report[LABEL_LENGTH] > 0) == (case.series.number == 0), (case, n, report)
     else:
         assert report[:2] == due, (case, n, report)
     if n == LENGTHS[0]:
@@ -121,9 +121,9 @@ def check(case, n, label, content, lent, report):
 
 
 def count(program, case, n):
-    label, content = given(case.call, case.family, n)
-    room = "bound" if case.family.room is None else case.family.room(n)
-    words = [program, *map(str, [case.call, case.grammar, case.family.style, len(label), len(content), room])]
+    label, content = given(case.call, case.series, n)
+    room = "bound" if case.series.room is None else case.series.room(n)
+    words = [program, *map(str, [case.call, case.grammar, case.series.style, len(label), len(content), room])]
     painted = subprocess.run([*words, "painted"], input=label + content, capture_output=True, check=True)
     *report, lent, stack = map(int, painted.stdout.split())
     check(case, n, label, content, lent, report)
@@ -143,15 +143,15 @@ def line(call, name, grammar, number, figures, growth, stack, note=""):
 
 
 def row_line(row):
-    call, grammar, family = row.case
+    call, grammar, series = row.case
     figures = ["%.2f" % one.figure for one in row.counts]
     stack = shown([one.stack for one in row.counts])
-    return line(call, family.name, grammar, family.number, figures, "%.2f" % row.growth(), stack, "grows" if row.grows() else "")
+    return line(call, series.name, grammar, series.number, figures, "%.2f" % row.growth(), stack, "grows" if row.grows() else "")
 
 
 def named(row):
-    call, grammar, family = row.case
-    return "%s, %s (grammar %d)" % (call, family.name, grammar)
+    call, grammar, series = row.case
+    return "%s, %s (grammar %d)" % (call, series.name, grammar)
 
 
 def worst_of(rows, call):
@@ -165,7 +165,7 @@ def summary(rows):
         "",
         *["Worst: %s, %.2f." % (named(row), row.counts[-1].figure) for row in worst],
         "Largest growth: %s, %.2f." % (named(most), most.growth()),
-        "Families: %d, of which %d grow." % (len(rows), sum(map(Row.grows, rows))),
+        "Series: %d, of which %d grow." % (len(rows), sum(map(Row.grows, rows))),
     ]
 
 
@@ -181,7 +181,7 @@ def main():
     rows = []
     with tempfile.TemporaryDirectory() as folder, concurrent.futures.ThreadPoolExecutor(os.cpu_count()) as pool:
         program = built(archive, folder)
-        cases = [Case(*key, family) for key, families in FAMILIES.items() for family in families]
+        cases = [Case(*key, series) for key, listed in SERIES.items() for series in listed]
         counts = [(case, [pool.submit(count, program, case, n) for n in lengths]) for case in cases]
         for case, ones in counts:
             rows.append(Row(case, [one.result() for one in ones]))
