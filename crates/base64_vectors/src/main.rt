@@ -1,4 +1,5 @@
 // Runs base64 on the test vectors of RFC 4648, section 10, in both directions, on every byte, and on the 256 bytes in order.
+#![tactic(auto)]
 ghost use Rattle.std.specs.Prelude.{◌≡◌};
 ghost use Rattle.base_64.specs.Alphabet.{alphabet};
 ghost use Rattle.base_64.specs.Values.{DecodeTable};

@@ -1,5 +1,7 @@
 // Base 64 of RFC 4648, section 4: the alphabet, and groups of values and bytes in both directions.
 // The definitions that the contracts cite stand in specs/; each function is proved equal to its definition.
+#![tactic(auto)]
+
 ghost use Rattle.std.specs.Prelude.{◌≡◌, [], ◌∷◌, ◌*◌, ◌/◌, ltb};
 ghost use Rattle.base_64.specs.Alphabet.{radix, Sextet, alphabet, char_of, value_of, answer_of};
 ghost use Rattle.base_64.specs.Values.{DecodeTable};

@@ -1,4 +1,5 @@
 // Asks for grammars and line ends by number, for the numbers of styles, and for the places of labels behind boundaries.
+#![tactic(auto)]
 use grammar::{Grammar, LineEnding, LineStyle, Numbered, NumberedEnding, TextOffset};
 use libc::STDOUT_FILENO;
 

@@ -1,6 +1,7 @@
 // What indexing a bundle means: the answers, and what is known of a message on the way to them. The definitions stand in
 // specs/; specs/Meaning says in the grammars' relations what a caller gets, and proofs/ that the definitions mean just that. The
 // crate `index` has the code.
+#![tactic(auto)]
 use reading::{Found, Refusal, Span};
 
 // How many numbers a table has or needs.

@@ -49,7 +49,7 @@ module _ (g : Grammar) (p : Phase) {q : Phase} (on_cr : next g p CR ≡ q) (on_l
 
   -- The last line end of a body, behind which the machine waits for the closing.
   pub last_end_closes : {e : List ℕ} → LineEnd e [] → next g q hyphen ≡ Word Closing 1 → Closes g p e
-  last_end_closes he h = rw append-nil at (line_end_closes he (λ z. rw h))
+  last_end_closes he h = rw append-nil at (line_end_closes he (λ z. rw (run, h)))
 
   -- A line end behind which the machine accepts.
   pub line_end_accepted : {e : List ℕ} → accepting q ≡ true → LineEnd e [] → accepting (run g (state p false) e).phase ≡ true

@@ -2,6 +2,7 @@
 // each byte takes it stands in proofs/, as definitions, and so does the proof that it accepts exactly the texts of the grammars'
 // relations. The crates `transitions` and `engine` have its code.
 // The kinds of byte that the grammars tell apart.
+#![tactic(auto)]
 #[derive(Drop)]
 pub enum Kind {
     Tab,

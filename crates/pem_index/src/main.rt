@@ -3,6 +3,7 @@
 // The grammar is lax, standard, strict or a number, and lax where it is left out. Standard input is indexed as a whole, and
 // each message gets a line: start, length, label and data size. A refusal is one line: number and place; more than 65,536 bytes
 // are a text that is too long. What keeps the program from its work is one line that starts with its name.
+#![tactic(auto)]
 mod listing;
 
 use grammar::Grammar;

@@ -1,6 +1,7 @@
 // What reading one message means: the answers and what is counted on the way to them. The definitions stand in specs/;
 // specs/Meaning says in the grammars' relations what a caller gets, and proofs/ that the definitions mean just that. The crate
 // `reader` has the code.
+#![tactic(auto)]
 use base_64::ByteCount;
 use grammar::{Family, LineStyle, TextOffset};
 use machine::Phase;

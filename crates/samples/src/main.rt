@@ -18,6 +18,7 @@
 //
 // Each call is lent a buffer of its own. Buffers that were handed down would be followed through every function by the proofs,
 // whose cost goes by what a function holds.
+#![tactic(auto)]
 mod bundle;
 mod call;
 mod made;

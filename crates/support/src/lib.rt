@@ -1,4 +1,5 @@
 // What the programs over the library share.
+#![tactic(auto)]
 pub mod bytes;
 pub mod expand;
 pub mod fields;

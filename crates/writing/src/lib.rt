@@ -1,6 +1,7 @@
 // What writing one message means: the answers, and what is written. The definitions stand in specs/; specs/Meaning says in the
 // grammars' relations what a caller gets, and proofs/ that the definitions mean just that, and that reading and writing undo one
 // another. The crate `writer` has the code.
+#![tactic(auto)]
 
 use grammar::LineEnding;
 

@@ -2,6 +2,7 @@
 //
 // Each call fills a report of eight numbers: the answer's number, its place, its size, the label's offset, its length and its
 // family, the style of the line ends, and zero. A slice is handed over as a pointer and a length.
+#![tactic(auto)]
 ghost use Rattle.std.specs.Prelude.{◌≡◌, length};
 ghost use Rattle.reading.specs.Answers.{number_of};
 ghost use Rattle.reading.specs.Meaning.{Reads, HandsBack};
