@@ -41,7 +41,7 @@ const DECODE_TABLE: [u8; 256] = *b"\
     @@@@@@@@@@@@@@@@";
 
 // What a byte stands for in base 64 text.
-#[derive(Drop)]
+#[derive(Clone, Copy)]
 pub enum Value {
     // The value, 0 to 63, of a character of the alphabet.
     Of(u8),
@@ -50,18 +50,18 @@ pub enum Value {
 }
 
 // A count of decoded bytes. It is no offset in a text (`grammar::TextOffset`).
-#[derive(Drop)]
+#[derive(Clone, Copy)]
 pub struct ByteCount(pub usize);
 
 // The one byte of a group of two values, and the four bits behind it.
-#[derive(Drop)]
+#[derive(Clone, Copy)]
 pub struct OneByte {
     pub bytes: [u8; 1],
     pub spare: u8,
 }
 
 // The two bytes of a group of three values, and the two bits behind them.
-#[derive(Drop)]
+#[derive(Clone, Copy)]
 pub struct TwoBytes {
     pub bytes: [u8; 2],
     pub spare: u8,

@@ -267,7 +267,7 @@ pub fn put_lines(table: &[u32; 1024], text: &[u8], from: usize, out: &mut [u8]) 
 }
 
 // A group of which so many characters were read, with the value of the last one: its low bits start the next byte.
-#[derive(Drop)]
+#[derive(Clone, Copy)]
 pub enum Open {
     Start,
     One(u8),
@@ -276,7 +276,7 @@ pub enum Open {
 }
 
 // What the next byte of a body does: it leaves an open group, or completes a byte of the data too.
-#[derive(Drop)]
+#[derive(Clone, Copy)]
 pub enum Fed {
     Held(Open),
     Byte(u8, Open),
@@ -307,7 +307,7 @@ fn feed_byte(values: &[u8; 256], group: Open, c: u8) -> Fed
 }
 
 // The open group behind a byte of a body, and how many bytes of data were written.
-#[derive(Drop)]
+#[derive(Clone, Copy)]
 struct Partial {
     group: Open,
     written: usize,
@@ -341,7 +341,7 @@ fn put_byte(
 }
 
 // How far a body was decoded, and how many bytes of data were written.
-#[derive(Drop)]
+#[derive(Clone, Copy)]
 struct Progress {
     read: usize,
     written: usize,

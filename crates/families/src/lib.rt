@@ -8,7 +8,7 @@ ghost use Rattle.families.specs.Arrays.{unpadded};
 use grammar::Family;
 
 // A label with zeros behind it, so that all are of one length, and the number of its family. No byte of a label is zero.
-#[derive(Drop)]
+#[derive(Clone, Copy)]
 struct KnownLabel([u8; 24], u32);
 
 // The labels of `known_labels`, one by one.

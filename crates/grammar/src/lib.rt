@@ -41,7 +41,7 @@ pub const LINE_GROUPS: usize = LINE_CHARS / base_64::GROUP_CHARS;
 pub const LINE_BYTES: usize = LINE_GROUPS * base_64::GROUP_BYTES;
 
 // A grammar.
-#[derive(Drop)]
+#[derive(Clone, Copy)]
 pub enum Grammar {
     Lax,
     Standard,
@@ -49,7 +49,7 @@ pub enum Grammar {
 }
 
 // The grammar that a caller's number asks for.
-#[derive(Drop)]
+#[derive(Clone, Copy)]
 pub enum Numbered {
     Known(Grammar),
     Unknown,
@@ -77,11 +77,11 @@ impl Grammar {
 }
 
 // The family of a label, by its number: 0 for a label that is in none.
-#[derive(Drop)]
+#[derive(Clone, Copy)]
 pub struct Family(pub u32);
 
 // A kind of line end: LF, CRLF, or CR with no LF behind it.
-#[derive(Drop)]
+#[derive(Clone, Copy)]
 pub enum LineEnding {
     Lf,
     CrLf,
@@ -89,7 +89,7 @@ pub enum LineEnding {
 }
 
 // The line ends of a text together: none, all of one kind, or of several.
-#[derive(Drop)]
+#[derive(Clone, Copy)]
 pub enum LineStyle {
     NoLineEnd,
     Only(LineEnding),
@@ -119,7 +119,7 @@ impl LineStyle {
 }
 
 // The kind of line end that a caller's number asks for.
-#[derive(Drop)]
+#[derive(Clone, Copy)]
 pub enum NumberedEnding {
     Known(LineEnding),
     Unknown,
@@ -147,7 +147,7 @@ impl LineEnding {
 }
 
 // An offset in a text: the number of bytes before it. It is no count of decoded bytes (`base_64::ByteCount`).
-#[derive(Drop)]
+#[derive(Clone, Copy)]
 pub struct TextOffset(pub usize);
 
 // How many bytes BEGIN and END have.

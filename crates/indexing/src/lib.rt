@@ -5,25 +5,25 @@
 use reading::{Found, Refusal, Span};
 
 // How many numbers a table has or needs.
-#[derive(Drop)]
+#[derive(Clone, Copy)]
 pub struct TableSize(pub usize);
 
 // What the table tells of a message: where it is in the text, and what is reported of it.
-#[derive(Drop)]
+#[derive(Clone, Copy)]
 pub struct Entry {
     pub message: Span,
     pub found: Found,
 }
 
 // The checks 1 to 9 of a bundle: all passed, by so many messages; or the first that did not.
-#[derive(Drop)]
+#[derive(Clone, Copy)]
 pub enum Survey {
     Sound(usize),
     Refused(Refusal),
 }
 
 // The answer of `index`.
-#[derive(Drop)]
+#[derive(Clone, Copy)]
 pub enum IndexAnswer {
     // 0: the table holds the count and each message's numbers, and then zeros.
     Accepted(TableSize),

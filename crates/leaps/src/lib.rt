@@ -13,7 +13,7 @@ use grammar::Grammar;
 use machine::{Boundary, LaxPhase, Phase, StandardPhase, StrictPhase};
 
 // Whether a line of the body begins in a phase, and under which grammar.
-#[derive(Drop)]
+#[derive(Clone, Copy)]
 pub enum BodyLine {
     Lax,
     Standard,

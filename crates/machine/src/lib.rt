@@ -3,7 +3,7 @@
 // relations. The crates `transitions` and `engine` have its code.
 // The kinds of byte that the grammars tell apart.
 #![tactic(auto)]
-#[derive(Drop)]
+#[derive(Clone, Copy)]
 pub enum Kind {
     Tab,
     Space,
@@ -20,14 +20,14 @@ pub enum Kind {
 }
 
 // The opening or the closing boundary.
-#[derive(Drop)]
+#[derive(Clone, Copy)]
 pub enum Boundary {
     Opening,
     Closing,
 }
 
 // What has been read of a label and of the five hyphens behind it.
-#[derive(Drop)]
+#[derive(Clone, Copy)]
 pub enum LabelPhase {
     // Nothing.
     Start,
@@ -45,7 +45,7 @@ pub enum LabelPhase {
 }
 
 // What has been read of a lax message behind its opening.
-#[derive(Drop)]
+#[derive(Clone, Copy)]
 pub enum LaxPhase {
     // White and alphabet characters.
     Data,
@@ -58,7 +58,7 @@ pub enum LaxPhase {
 }
 
 // What has been read of a standard message behind its opening.
-#[derive(Drop)]
+#[derive(Clone, Copy)]
 pub enum StandardPhase {
     // Blanks.
     Opened,
@@ -89,7 +89,7 @@ pub enum StandardPhase {
 }
 
 // What has been read of a strict message behind its opening.
-#[derive(Drop)]
+#[derive(Clone, Copy)]
 pub enum StrictPhase {
     // Nothing.
     Opened,
@@ -112,7 +112,7 @@ pub enum StrictPhase {
 }
 
 // What has been read of a message.
-#[derive(Drop)]
+#[derive(Clone, Copy)]
 pub enum Phase {
     // White before the opening, under lax.
     Before,
@@ -127,7 +127,7 @@ pub enum Phase {
 }
 
 // The machine between two bytes.
-#[derive(Drop)]
+#[derive(Clone, Copy)]
 pub struct State {
     pub phase: Phase,
     // CR was read last.
@@ -135,7 +135,7 @@ pub struct State {
 }
 
 // The part of a message that the bytes read last belong to.
-#[derive(Drop)]
+#[derive(Clone, Copy)]
 pub enum Part {
     Before,
     Opening,
@@ -145,7 +145,7 @@ pub enum Part {
 }
 
 // Where a label goes on.
-#[derive(Drop)]
+#[derive(Clone, Copy)]
 pub enum LabelTarget {
     To(LabelPhase),
     // Its fifth hyphen has been read.
@@ -154,7 +154,7 @@ pub enum LabelTarget {
 }
 
 // Where a label goes on from one phase, by the kind of the next byte.
-#[derive(Drop)]
+#[derive(Clone, Copy)]
 pub struct LabelRow {
     pub hyphen: LabelTarget,
     pub space: LabelTarget,
@@ -162,7 +162,7 @@ pub struct LabelRow {
 }
 
 // Where the machine goes from one phase behind the opening, by the kind of the next byte.
-#[derive(Drop)]
+#[derive(Clone, Copy)]
 pub struct Row {
     pub blank: Phase,
     pub feed: Phase,

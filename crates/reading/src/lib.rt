@@ -13,7 +13,7 @@ pub const LABEL_LIMIT: usize = 64;
 
 // What bytes hold of line ends: LF with no CR before it, LF behind CR, and CR, whatever follows it. LF behind CR makes one line end
 // of the two, so that `cr - crlf` of them are CR alone; no count depends on a byte that is still to come.
-#[derive(Drop)]
+#[derive(Clone, Copy)]
 pub struct EndCounts {
     pub lf: usize,
     pub crlf: usize,
@@ -22,7 +22,7 @@ pub struct EndCounts {
 
 // How many bytes of a message each part has, and of its body how many alphabet characters, how many pads, and how many bytes
 // before its last alphabet character. The line ends are those of all its parts.
-#[derive(Drop)]
+#[derive(Clone, Copy)]
 pub struct Tally {
     pub before: usize,
     pub opening: usize,
@@ -36,7 +36,7 @@ pub struct Tally {
 
 // A text, read from an offset to the first byte that no text of the grammar could have there, or to its end: the last phase,
 // how many bytes were read, and what they were.
-#[derive(Drop)]
+#[derive(Clone, Copy)]
 pub struct Scan {
     pub phase: Phase,
     pub length: usize,
@@ -44,14 +44,14 @@ pub struct Scan {
 }
 
 // A part of a text: where it starts, and how many bytes of the text it has.
-#[derive(Drop)]
+#[derive(Clone, Copy)]
 pub struct Span {
     pub at: TextOffset,
     pub length: usize,
 }
 
 // Where the parts of a message are: the opening's label, the body, the first hyphen of the closing, and the closing's label.
-#[derive(Drop)]
+#[derive(Clone, Copy)]
 pub struct Layout {
     pub opened: Span,
     pub body: Span,
@@ -60,7 +60,7 @@ pub struct Layout {
 }
 
 // The refusals 1 to 9 of the requirements, in their order, with their places.
-#[derive(Drop)]
+#[derive(Clone, Copy)]
 pub enum Refusal {
     UnknownGrammar,
     TextTooLong,
@@ -74,7 +74,7 @@ pub enum Refusal {
 }
 
 // What is reported of a message: how many bytes its data has, where its label is, and the label's family.
-#[derive(Drop)]
+#[derive(Clone, Copy)]
 pub struct Found {
     pub size: ByteCount,
     pub label: Span,
@@ -83,14 +83,14 @@ pub struct Found {
 
 // The checks 1 to 9: all passed, by a message with this layout, of which this is reported, with these line ends; or the first
 // that did not.
-#[derive(Drop)]
+#[derive(Clone, Copy)]
 pub enum Judgement {
     Sound(Layout, Found, LineStyle),
     Refused(Refusal),
 }
 
 // The answer of `read`.
-#[derive(Drop)]
+#[derive(Clone, Copy)]
 pub enum ReadAnswer {
     // 0: the output holds the data, and then zeros; the line ends are those of the whole text.
     Accepted(Found, LineStyle),

@@ -19,7 +19,7 @@ pub const LF_WIDTH: usize = 1;
 pub const CRLF_WIDTH: usize = 2;
 
 // A run of characters, blanks behind it and a line end, by the offsets at which they end; any of the three may be empty.
-#[derive(Drop)]
+#[derive(Clone, Copy)]
 pub struct Line {
     pub characters: usize,
     pub blanks: usize,
@@ -28,7 +28,7 @@ pub struct Line {
 
 // Lines of whole groups: where they end, how many groups they have, where the characters of the last one end, and how many of
 // them end with LF and with CRLF.
-#[derive(Drop)]
+#[derive(Clone, Copy)]
 pub struct Lines {
     pub end: usize,
     pub groups: usize,

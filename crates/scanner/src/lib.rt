@@ -32,7 +32,7 @@ use reading::{EndCounts, Scan, Tally};
 use runs::{CRLF_WIDTH, LF_WIDTH, Lines};
 
 // How far a scan has come: the offset of the next byte, the machine's state before it, and the tally of those behind it.
-#[derive(Drop)]
+#[derive(Clone, Copy)]
 pub struct Position {
     pub at: usize,
     pub state: State,
@@ -40,7 +40,7 @@ pub struct Position {
 }
 
 // A scan, and how much of the text was decoded beside it: what stands from one offset to another, as so many bytes of data.
-#[derive(Drop)]
+#[derive(Clone, Copy)]
 pub struct DecodingScan {
     pub scan: Scan,
     pub from: usize,
@@ -49,7 +49,7 @@ pub struct DecodingScan {
 }
 
 // Where lines lead, and how many bytes of data they were written as.
-#[derive(Drop)]
+#[derive(Clone, Copy)]
 struct DecodedLines {
     position: Position,
     written: usize,

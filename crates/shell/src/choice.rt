@@ -4,7 +4,7 @@ ghost use Rattle.shell.specs.Words.{Names, extended, spelled};
 
 use grammar::Grammar;
 
-#[derive(Drop)]
+#[derive(Clone, Copy)]
 pub enum Choice {
     Number(u32),
     Unknown,

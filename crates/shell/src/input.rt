@@ -7,7 +7,7 @@ use grammar::{Grammar, Numbered};
 use libc::STDIN_FILENO;
 use reading::Refusal;
 
-#[derive(Drop)]
+#[derive(Clone, Copy)]
 pub enum Input {
     Bytes(usize),
     TooLong,
@@ -15,7 +15,7 @@ pub enum Input {
 }
 
 // What one read gave.
-#[derive(Drop)]
+#[derive(Clone, Copy)]
 enum More {
     Bytes(usize),
     End,

@@ -4,7 +4,7 @@
 pub const UNSET: u64 = 18446744073709551615;
 
 // What a call answered: its number, and the report that it filled.
-#[derive(Drop)]
+#[derive(Clone, Copy)]
 pub struct Answer {
     pub number: u32,
     pub report: [u64; 8],

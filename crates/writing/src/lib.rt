@@ -6,11 +6,11 @@
 use grammar::LineEnding;
 
 // How many bytes a text has or needs.
-#[derive(Drop)]
+#[derive(Clone, Copy)]
 pub struct TextSize(pub usize);
 
 // The refusals 11 to 14 and 20 of the requirements, in their order. Their place is always 0.
-#[derive(Drop)]
+#[derive(Clone, Copy)]
 pub enum WriteRefusal {
     LabelTooLong,
     NotALabel,
@@ -20,14 +20,14 @@ pub enum WriteRefusal {
 }
 
 // The checks 11 to 14 and 20: all passed, by these line ends, and the text has so many bytes; or the first that did not.
-#[derive(Drop)]
+#[derive(Clone, Copy)]
 pub enum Judgement {
     Taken(LineEnding, TextSize),
     Refused(WriteRefusal),
 }
 
 // The answer of `write`.
-#[derive(Drop)]
+#[derive(Clone, Copy)]
 pub enum WriteAnswer {
     // 0: the output holds the text, and then zeros.
     Accepted(TextSize),
@@ -38,7 +38,7 @@ pub enum WriteAnswer {
 }
 
 // Where the next character of the lines is written, and how many more its line has room for.
-#[derive(Drop)]
+#[derive(Clone, Copy)]
 pub struct Cursor {
     pub at: usize,
     pub room: usize,
