@@ -1,7 +1,7 @@
 /*
  * Zullifern: reads, indexes and writes RFC 7468 text (PEM).
  *
- * Link with libzullifern.a, which `rt staticlib zullifern` makes for x86-64 Linux. Every function of the library is proved to
+ * Link with libzullifern.a, which `bin/archive` makes for x86-64 Linux. Every function of the library is proved to
  * meet its contract; the contracts speak of slices, so what a caller has to see to is that
  *
  *   - each pointer points to as many items as the length behind it says; it may be NULL where that is 0, as that of an empty

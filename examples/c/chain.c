@@ -1,7 +1,7 @@
 /*
  * Reads a chain of certificates in PEM form from standard input, and prints what it holds.
  *
- *     rt staticlib zullifern
+ *     bin/archive
  *     gcc -Iinclude examples/c/chain.c target/staticlib/libzullifern.a -o target/chain
  *     target/chain < examples/chain.pem
  *

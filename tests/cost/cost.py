@@ -3,7 +3,7 @@ touches. Instructions should grow with the length and no faster, whatever the te
 Run by hand: it passes or fails nothing by what it counts. That a text is what its series says is asserted: by the oracle for
 the shortest, and by the number and the place of the answer for each.
 
-    rt staticlib zullifern
+    bin/archive
     python3 tests/cost/cost.py target/staticlib/libzullifern.a [LONGEST]
 
 LONGEST is the longest length that is tried, 1048576 where it is not given: that takes one to two minutes on two cores, and all

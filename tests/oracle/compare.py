@@ -5,7 +5,7 @@ has. A few texts have white behind them up to the limit or one byte over it, and
 one byte longer. With `leaps` it goes through all that `leaps.py` makes, which takes minutes; with `labels` through all that
 `labels.py` makes, with any other byte in each place, and through each two labels of families in one message.
 
-    rt staticlib zullifern
+    bin/archive
     python3 compare.py target/staticlib/libzullifern.a SEED COUNT
     python3 compare.py target/staticlib/libzullifern.a leaps
     python3 compare.py target/staticlib/libzullifern.a labels

@@ -1,6 +1,6 @@
 """Tests of the program pem_index and of its wrapper: what they print is what the oracle says.
 
-    rt check pem_index
+    bin/pem_index < /dev/null
     python3 tests/program/test_pem_index.py
 """
 import os
@@ -211,8 +211,8 @@ class Clone(unittest.TestCase):
         self.addCleanup(folder.cleanup)
         self.folder = pathlib.Path(folder.name)
         self.program = self.folder / "target/bin/pem_index"
-        for name in ("bin", "crates", "path"):
-            (self.folder / name).mkdir()
+        for name in ("bin", "crates/pem_index", "path"):
+            (self.folder / name).mkdir(parents=True)
         (self.folder / "crates.txt").touch()
         shutil.copy(WRAPPER, self.folder / "bin")
 
@@ -240,10 +240,10 @@ class Clone(unittest.TestCase):
         self.assertEqual(self.files(), before)
 
     def test_it_is_built_where_it_is_missing_or_older(self):
-        self.rt('echo "$@"', "mkdir -p target/bin", f"cp {PROGRAM} target/bin", "touch -d 2001-01-01 target/bin/pem_index")
+        self.rt('echo "$@"', "mkdir -p out", f"cp {PROGRAM} out", "touch -d 2001-01-01 out/pem_index")
         built = (0, lines(MESSAGE, 1), BUILDING)
         self.assertEqual(self.run_wrapper(), built)
-        self.assertEqual((self.folder / "target/pem_index.log").read_text(), "check pem_index\n")
+        self.assertEqual((self.folder / "target/pem_index.log").read_text(), "run\n")
         self.assertEqual(self.run_wrapper(), (0, lines(MESSAGE, 1), b""))
         os.utime(self.program, (0, 0))
         self.assertEqual(self.run_wrapper(), built)
