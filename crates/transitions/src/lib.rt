@@ -1,6 +1,7 @@
 // The machine's transition tables: for each phase the ways on, by kinds of byte. Each function equals its definition in the crate
 // `machine`.
 #![tactic(auto)]
+
 ghost use Rattle.std.specs.Prelude.{◌≡◌};
 ghost use Rattle.machine.proofs.Machine.{label_row, line_end, line_char, line_pad, row, lax_row, standard_row, strict_row};
 
