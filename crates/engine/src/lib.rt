@@ -1,5 +1,6 @@
 // The machine's code, but for its tables: each function equals its definition in the crate `machine`.
 #![tactic(auto)]
+
 ghost use Rattle.std.specs.Prelude.{◌≡◌, length, get_or};
 ghost use Rattle.base_64.specs.Values.{DecodeTable};
 ghost use Rattle.machine.proofs.ByteKinds.{kind_of, other_kind};
