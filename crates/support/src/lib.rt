@@ -1,5 +1,6 @@
 // What the programs over the library share.
 #![tactic(auto)]
+
 pub mod bytes;
 pub mod expand;
 pub mod fields;
