@@ -1,5 +1,6 @@
 // The families of labels: the table of the labels that have one, and the search in it.
 #![tactic(auto)]
+
 ghost use Rattle.std.specs.Prelude.{◌≡◌};
 ghost use Rattle.base_64.specs.Lists.{same_bytes};
 ghost use Rattle.grammar.specs.Families.{family_of};
