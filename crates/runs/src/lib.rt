@@ -1,6 +1,7 @@
 // What stands in a text from a place on: runs of bytes of one kind, lines, words. No function here knows a grammar: each promises
 // only what the bytes are that it has passed.
 #![tactic(auto)]
+
 ghost use Rattle.std.specs.Prelude.{◌≡◌, true, ◌+◌, ◌≤◌, length};
 ghost use Rattle.base_64.specs.Alphabet.{AlphabetChar};
 ghost use Rattle.base_64.specs.Values.{DecodeTable};
