@@ -1,6 +1,7 @@
 // What may be passed at once from a phase of the machine, and the phase behind it: lines of a body, pads with their line end, the
 // closing, and the line end of a boundary. It looks at no text.
 #![tactic(auto)]
+
 ghost use Rattle.std.specs.Prelude.{◌≡◌, true, false, cond, ◌≤◌, ◌<◌, eqb};
 ghost use Rattle.grammar.specs.Marks.{LF};
 ghost use Rattle.grammar.specs.declared.Grammar.{Grammar};
