@@ -56,13 +56,13 @@ fn number(word: &[u8]) -> Choice
 pub fn of(word: &[u8]) -> Choice
     ensures { Names word.now result }
 {
-    if check::same(word, b"lax") {
+    if word == b"lax".as_slice() {
         return Choice::Number(Grammar::LAX);
     }
-    if check::same(word, b"standard") {
+    if word == b"standard".as_slice() {
         return Choice::Number(Grammar::STANDARD);
     }
-    if check::same(word, b"strict") {
+    if word == b"strict".as_slice() {
         return Choice::Number(Grammar::STRICT);
     }
     number(word)

@@ -4,8 +4,8 @@ ghost use Rattle.grammar.specs.Grammars.{grammar_of};
 ghost use Rattle.shell.specs.Input.{ReadBehind, Within, long_refusal};
 
 use grammar::{Grammar, Numbered};
-use libc::STDIN_FILENO;
 use reading::Refusal;
+use std::io::Read;
 
 #[derive(Clone, Copy)]
 pub enum Input {
@@ -23,28 +23,26 @@ enum More {
 }
 
 // Reads once, behind the first `n` bytes.
-fn read_more(text: &mut [u8], n: usize) -> More
+fn read_more<R: Read>(reader: &mut R, text: &mut [u8], n: usize) -> More
     requires { n ≤ length text.old }
     ensures { ReadBehind n result (length text.old) }
 {
     let end = text.len();
     let rest = &mut text[n..end];
-    let got = libc::read(STDIN_FILENO, rest);
-    if got < 0 {
+    let Ok(k) = reader.read(rest) else {
         return More::Failed;
-    }
-    let k = io::count(got, rest);
+    };
     if k == 0 { More::End } else { More::Bytes(k) }
 }
 
 // Reads until the input ends. A buffer that is full before that holds a part of the input only, and an index of a part would look
 // like an answer. A read that fails makes the whole input unreadable: what came before it is no text that anybody sent.
-pub fn read(text: &mut [u8]) -> Input
+pub fn read<R: Read>(reader: &mut R, text: &mut [u8]) -> Input
     ensures { Within result (length text.new) }
 {
     let mut n = 0;
     while n < text.len() {
-        match read_more(text, n) {
+        match read_more(reader, text, n) {
             More::Bytes(k) => {
                 n += k;
             }
