@@ -238,6 +238,8 @@ items (i ∷ is) (s ∷ ss) = written_reading s i.label i.content ∷ items is s
 -- The texts of a list joined are those of the readings joined.
 list_joined : (is : List Item) (ss : List LineEnding) (text : List ℕ) → WrittenList is ss text → text ≡ joined_text (items is ss)
 list_joined [] [] text none = refl
+list_joined [] (s ∷ ss) text w = elim w [ ]
+list_joined (i ∷ is) [] text w = elim w [ ]
 list_joined (i ∷ is) (s ∷ ss) text (next _ _ _ _ t rest w ws) =
     λ k. ((written_text_lem s i.label i.content t w).1 ∙ written_joined s i.label i.content) k ++ list_joined is ss rest ws k
 
@@ -254,6 +256,8 @@ items_consistent (i ∷ is) (s ∷ ss) h = (written_consistent s i.label i.conte
 
 items_back : (is : List Item) (ss : List LineEnding) (text : List ℕ) → WrittenList is ss text → All TakesItem is → is ≡ map item_of (items is ss)
 items_back [] [] text none h = refl
+items_back [] (s ∷ ss) text w h = elim w [ ]
+items_back (i ∷ is) [] text w h = elim w [ ]
 items_back (i ∷ is) (s ∷ ss) text (next _ _ _ _ t rest w ws) h =
     let back : i.content ≡ data_of (written_reading s i.label i.content) = sym (written_data s i.label i.content h.0.octets) in
     λ k. record { label = i.label; content = back k } ∷ items_back is ss rest ws h.1 k
