@@ -1,56 +1,62 @@
 // Runs base64 on the test vectors of RFC 4648, section 10, in both directions, on every byte, and on the 256 bytes in order.
 #![tactic(auto)]
+
 ghost use Rattle.std.specs.Prelude.{◌≡◌};
 ghost use Rattle.base_64.specs.Alphabet.{alphabet};
 ghost use Rattle.base_64.specs.Values.{DecodeTable};
 
 use base_64::{RADIX, Value};
-use libc::STDOUT_FILENO;
+use std::io;
+use std::io::{BufWriter, Write};
 
-fn put(c: u8) {
+fn put(writer: &mut impl Write, c: u8) -> io::Result<()> {
     let text = [c];
-    io::write_all(STDOUT_FILENO, &text);
+    writer.write_all(&text)
 }
 
-fn end_line() {
-    put(b'\n');
+fn end_line(writer: &mut impl Write) -> io::Result<()> {
+    put(writer, b'\n')
 }
 
 // The spare bits behind a short group.
-fn put_spare(spare: u8) {
-    put(b' ');
-    io::print_decimal(STDOUT_FILENO, spare as u64);
+fn put_spare(writer: &mut impl Write, spare: u8) -> io::Result<()> {
+    put(writer, b' ')?;
+    write!(writer, "{spare}")
 }
 
 // The character of a value.
-fn put_char(table: &[u8; 64], value: u8)
+fn put_char(writer: &mut impl Write, table: &[u8; 64], value: u8) -> io::Result<()>
     requires { table.now ≡ alphabet }
 {
     if value < RADIX {
-        put(base_64::char_of(table, value));
+        put(writer, base_64::char_of(table, value))?;
     }
+    Ok(())
 }
 
-fn put_group(group: [u8; 4]) {
-    io::write_all(STDOUT_FILENO, &group);
+fn put_group(writer: &mut impl Write, group: [u8; 4]) -> io::Result<()> {
+    writer.write_all(&group)
 }
 
 // The base 64 text of the bytes, and a line end.
-fn encode(table: &[u8; 64], bytes: &[u8])
+fn encode(writer: &mut impl Write, table: &[u8; 64], bytes: &[u8]) -> io::Result<()>
     requires { table.now ≡ alphabet }
 {
     let mut i = 0;
     while 2 < bytes.len() - i {
-        put_group(base_64::encode_three(table, bytes[i], bytes[i + 1], bytes[i + 2]));
+        put_group(
+            writer,
+            base_64::encode_three(table, bytes[i], bytes[i + 1], bytes[i + 2]),
+        )?;
         i += 3;
     }
     if bytes.len() - i == 2 {
-        put_group(base_64::encode_two(table, bytes[i], bytes[i + 1]));
+        put_group(writer, base_64::encode_two(table, bytes[i], bytes[i + 1]))?;
     }
     if bytes.len() - i == 1 {
-        put_group(base_64::encode_one(table, bytes[i]));
+        put_group(writer, base_64::encode_one(table, bytes[i]))?;
     }
-    end_line();
+    end_line(writer)
 }
 
 // The value of a byte, or the radix for one outside the alphabet.
@@ -63,124 +69,126 @@ fn value(values: &[u8; 256], c: u8) -> u8
     }
 }
 
-fn decode_two(a: u8, b: u8) {
+fn decode_two(writer: &mut impl Write, a: u8, b: u8) -> io::Result<()> {
     if 63 < a {
-        return;
+        return Ok(());
     }
     if 63 < b {
-        return;
+        return Ok(());
     }
     let one = base_64::bytes_of_two(a, b);
     let bytes = one.bytes;
-    put(bytes[0]);
-    put_spare(one.spare);
+    put(writer, bytes[0])?;
+    put_spare(writer, one.spare)
 }
 
-fn decode_three(a: u8, b: u8, c: u8) {
+fn decode_three(writer: &mut impl Write, a: u8, b: u8, c: u8) -> io::Result<()> {
     if 63 < a {
-        return;
+        return Ok(());
     }
     if 63 < b {
-        return;
+        return Ok(());
     }
     if 63 < c {
-        return;
+        return Ok(());
     }
     let two = base_64::bytes_of_three(a, b, c);
     let bytes = two.bytes;
-    put(bytes[0]);
-    put(bytes[1]);
-    put_spare(two.spare);
+    put(writer, bytes[0])?;
+    put(writer, bytes[1])?;
+    put_spare(writer, two.spare)
 }
 
-fn decode_four(a: u8, b: u8, c: u8, d: u8) {
+fn decode_four(writer: &mut impl Write, a: u8, b: u8, c: u8, d: u8) -> io::Result<()> {
     if 63 < a {
-        return;
+        return Ok(());
     }
     if 63 < b {
-        return;
+        return Ok(());
     }
     if 63 < c {
-        return;
+        return Ok(());
     }
     if 63 < d {
-        return;
+        return Ok(());
     }
     let bytes = base_64::bytes_of_four(a, b, c, d);
-    put(bytes[0]);
-    put(bytes[1]);
-    put(bytes[2]);
+    put(writer, bytes[0])?;
+    put(writer, bytes[1])?;
+    put(writer, bytes[2])
 }
 
 // The bytes of the characters, with the spare bits behind a short group, and a line end.
-fn decode(values: &[u8; 256], text: &[u8])
+fn decode(writer: &mut impl Write, values: &[u8; 256], text: &[u8]) -> io::Result<()>
     requires { DecodeTable values.now }
 {
     let mut i = 0;
     while 3 < text.len() - i {
         decode_four(
+            writer,
             value(values, text[i]),
             value(values, text[i + 1]),
             value(values, text[i + 2]),
             value(values, text[i + 3]),
-        );
+        )?;
         i += 4;
     }
     if text.len() - i == 3 {
         decode_three(
+            writer,
             value(values, text[i]),
             value(values, text[i + 1]),
             value(values, text[i + 2]),
-        );
+        )?;
     }
     if text.len() - i == 2 {
-        decode_two(value(values, text[i]), value(values, text[i + 1]));
+        decode_two(writer, value(values, text[i]), value(values, text[i + 1]))?;
     }
-    end_line();
+    end_line(writer)
 }
 
 // The character of each byte's value, in the order of the bytes; then how many bytes are outside.
-fn every_byte(table: &[u8; 64], values: &[u8; 256])
+fn every_byte(writer: &mut impl Write, table: &[u8; 64], values: &[u8; 256]) -> io::Result<()>
     requires { (table.now ≡ alphabet) × DecodeTable values.now }
 {
     let mut outside: u64 = 0;
     for c in 0u8..=255 {
         let v = value(values, c);
         if v < RADIX {
-            put_char(table, v);
+            put_char(writer, table, v)?;
         } else {
             outside += 1;
         }
     }
-    end_line();
-    io::print_decimal(STDOUT_FILENO, outside);
-    end_line();
+    end_line(writer)?;
+    write!(writer, "{outside}")?;
+    end_line(writer)
 }
 
-fn encode_vectors(table: &[u8; 64])
+fn encode_vectors(writer: &mut impl Write, table: &[u8; 64]) -> io::Result<()>
     requires { table.now ≡ alphabet }
 {
-    encode(table, b"");
-    encode(table, b"f");
-    encode(table, b"fo");
-    encode(table, b"foo");
-    encode(table, b"foob");
-    encode(table, b"fooba");
-    encode(table, b"foobar");
+    encode(writer, table, b"")?;
+    encode(writer, table, b"f")?;
+    encode(writer, table, b"fo")?;
+    encode(writer, table, b"foo")?;
+    encode(writer, table, b"foob")?;
+    encode(writer, table, b"fooba")?;
+    encode(writer, table, b"foobar")
 }
 
-fn decode_vectors(values: &[u8; 256])
+fn decode_vectors(writer: &mut impl Write, values: &[u8; 256]) -> io::Result<()>
     requires { DecodeTable values.now }
 {
-    decode(values, b"Zg");
-    decode(values, b"Zm8");
-    decode(values, b"Zm9v");
-    decode(values, b"Zm9vYg");
-    decode(values, b"Zm9vYmE");
-    decode(values, b"Zm9vYmFy");
+    decode(writer, values, b"Zg")?;
+    decode(writer, values, b"Zm8")?;
+    decode(writer, values, b"Zm9v")?;
+    decode(writer, values, b"Zm9vYg")?;
+    decode(writer, values, b"Zm9vYmE")?;
+    decode(writer, values, b"Zm9vYmFy")?;
     // Spare bits that are not zero: 1 behind one byte, 3 behind two.
-    decode(values, b"Zh");
-    decode(values, b"Zm/");
+    decode(writer, values, b"Zh")?;
+    decode(writer, values, b"Zm/")
 }
 
 fn bytes_in_order() -> [u8; 256] {
@@ -191,14 +199,20 @@ fn bytes_in_order() -> [u8; 256] {
     bytes
 }
 
-fn main() {
+fn run(writer: &mut impl Write) -> io::Result<()> {
     let table = base_64::alphabet_table();
-    io::write_all(STDOUT_FILENO, &table);
-    end_line();
+    writer.write_all(&table)?;
+    end_line(writer)?;
     let values = base_64::decode_table();
-    every_byte(&table, &values);
-    encode_vectors(&table);
-    decode_vectors(&values);
+    every_byte(writer, &table, &values)?;
+    encode_vectors(writer, &table)?;
+    decode_vectors(writer, &values)?;
     let bytes = bytes_in_order();
-    encode(&table, &bytes);
+    encode(writer, &table, &bytes)
+}
+
+fn main(rt: HostRuntime) -> io::Result<()> {
+    let mut writer = BufWriter::new(rt.alloc(), io::writer(&rt))?;
+    run(&mut writer)?;
+    writer.flush()
 }
