@@ -8,7 +8,7 @@ use native.Mathlib.Omega.{arith}
 use lib.Dec.{eqb}
 use lib.ListN.{length, drop, get_or, replicate, drop_of_length-le}
 use lib.Seq.{drop-cons}
-use borrow.Author.Tests.{ne_eqb, eqb-true, eqb-false}
+use borrow.Author.Tests.{eq-eqb, ne_eqb, eqb-true, eqb-false}
 use Rattle.base_64.specs.Lists.{All, same_bytes}
 use Rattle.base_64.proofs.Lists.{same_lengths}
 use Rattle.families.specs.Arrays.{array_length, padded, unpadded}
@@ -48,6 +48,10 @@ pub unpadded_next : (array label : List ℕ) (i : ℕ) → i < length array → 
 unpadded_next array label i h k =
     let one : i + 1 ≡ suc i = omega arith in
     rw (one, drop-cons array i 0 h, drop-cons label i 0 k) (unpadded_cons (get_or array i 0) (get_or label i 0) (drop (suc i) array) (drop (suc i) label))
+
+-- No array tells a label with a zero.
+pub unpadded_zero : (array label : List ℕ) (i : ℕ) → i < length array → i < length label → get_or label i 0 ≡ 0 → same_bytes (unpadded (drop i array)) (drop i label) ≡ false
+unpadded_zero array label i h k e = unpadded_next array label i h k ∙ rw (eq-eqb _ 0 e)
 
 -- Behind the label a zero stands, or nothing.
 pub unpadded_end : (array label : List ℕ) (i : ℕ) → i < length array → length label ≤ i → same_bytes (unpadded (drop i array)) (drop i label) ≡ eqb (get_or array i 0) 0

@@ -31,6 +31,7 @@ const KNOWN_LABELS: [KnownLabel; 12] = [
 const NO_FAMILY: u32 = 0;
 
 // Whether a label is the one that stands in an array before its first zero.
+#[tactic(auto, using(crate::proofs::Arrays::unpadded_zero))]
 fn is_label(label: &[u8], array: &[u8]) -> bool
     ensures { result ≡ same_bytes (unpadded array.now) label.now }
 {
