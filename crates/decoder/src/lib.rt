@@ -1,6 +1,7 @@
 // Decoding a body: sixteen groups of four characters at once, then fewer, and byte by byte whatever no group covers.
 // Output behind what counts as written may hold anything until the end, when it is cleared.
 #![tactic(auto)]
+
 ghost use Rattle.std.specs.Prelude.{◌≡◌, true, false, ◌++◌, ◌+◌, ◌-◌, ◌*◌, ◌/◌, ◌%◌, ◌≤◌, ◌<◌, length, replicate};
 ghost use Rattle.base_64.specs.Alphabet.{Sextet};
 ghost use Rattle.base_64.specs.Values.{DecodeTable};
