@@ -1,6 +1,7 @@
 // Writing one message: the checks 11 to 14, 20 and 10, and the strict text with line ends of the kind asked.
 // The definitions that the contracts cite stand in the crate `writing`, and those for the steps to a full line in specs/.
 #![tactic(auto)]
+
 ghost use Rattle.std.specs.Prelude.{◌≡◌, ◌++◌, ◌+◌, ◌-◌, ◌*◌, ◌/◌, ◌%◌, ◌≤◌, ◌<◌, length, replicate};
 ghost use Rattle.base_64.specs.Values.{DecodeTable};
 ghost use Rattle.base_64.specs.Alphabet.{Sextet, alphabet, char_of};
