@@ -1,10 +1,10 @@
--- Demand 3's sentences on the index call hold. Assumes nothing.
+-- What demands 2 and 3 say of the index call holds. Assumes nothing.
 use mathlib.Core.Path.{◌≡◌, refl, sym, ap, ◌∙◌, subst}
 use mathlib.Core.Bool.{Bool, true, false}
 use mathlib.Core.List.{List, [], ◌∷◌, ◌++◌, map, append_assoc, append-nil}
 use Prim.Native.Nat.{ℕ, ◌+◌, ◌-◌, ◌≤◌, ◌<◌}
 use lib.Dec.{ltb}
-use lib.ListN.{length, replicate}
+use lib.ListN.{length, take, replicate}
 use native.Mathlib.Omega.{arith}
 use borrow.Author.Tests.{ltb-true, ltb-false}
 use Rattle.base_64.specs.Lists.{All}
@@ -21,18 +21,43 @@ use Rattle.reading.specs.Limits.{text_limit, label_limit}
 use Rattle.reading.specs.Meaning as rows
 use Rattle.reading.specs.Meaning.{label_start, Sound}
 use Rattle.reading.specs.declared.Refusal.TheVariants.{TextTooLong, LabelTooLong}
+use Rattle.reading.specs.Claims.{GrammarRefusalNumber}
 use Rattle.reading.proofs.Whole.{front_same}
+use Rattle.reading.proofs.Judgements.{part_fails}
 use Rattle.reading.proofs.Results.{refusal_some}
-use Rattle.indexing.specs.Answers.{size_for, table_size, number_of, size_of}
+use Rattle.reading.proofs.Claims.{grammar_fails_lem, not_admitted_number, message_fails_number}
+use Rattle.indexing.specs.Answers.{size_for, table_size, number_of, place_of, size_of}
 use Rattle.indexing.specs.Meaning as meaning
-use Rattle.indexing.specs.Meaning.{Whole, AllWhole, Passed, Indexes}
+use Rattle.indexing.specs.Meaning.{Whole, AllWhole, Broken, Passed, Indexes}
 use Rattle.indexing.specs.Index.{index_of, lent_table}
-use Rattle.indexing.specs.Claims.{Alike, AnswersZero, Indexable, ZeroExactly}
+use Rattle.indexing.specs.Claims.{BrokenBundle, BundlePlace, Alike, AnswersZero, Indexable, ZeroExactly}
 use Rattle.indexing.specs.declared.IndexAnswer.{IndexAnswer}
 use Rattle.indexing.specs.declared.IndexAnswer.TheVariants as answer
 use Rattle.indexing.proofs.Entries.{table_size_lem}
 use Rattle.indexing.proofs.Whole.{unextended_end, unextended_all_whole}
-use Rattle.indexing.proofs.Meaning.{index_means, indexes_index}
+use Rattle.indexing.proofs.Meaning.{broken_tells, index_means, indexes_index}
+
+-- ---- The place of a grammar refusal
+
+pub bundle_place : BundlePlace
+bundle_place = record { only = λ text number room. only text number room _ _ (index_means text number room); always = always }
+  where
+    only : (text : List ℕ) (number room : ℕ) (a : IndexAnswer) (t : List ℕ) → Indexes text number room a t → GrammarRefusalNumber (number_of a) → BrokenBundle text number (place_of a)
+    only text number room a t (meaning.accepted g rs p f) n = absurd (omega (arith, n))
+    only text number room a t (meaning.refused {refusal} (meaning.not_admitted f)) n = absurd (not_admitted_number text number refusal f n)
+    only text number room a t (meaning.refused {refusal} (meaning.grammar_fails g rs rest k b f)) n =
+        subst (BrokenBundle text number) (sym (grammar_fails_lem g (take k rest) (length (joined_text rs) + k) refusal f).1)
+        record { grammar = g; admitted = b.judged.admitted; none = b.none; longest = b.longest }
+    only text number room a t (meaning.refused {refusal} (meaning.message_fails g rs r rest j s w f)) n = absurd (message_fails_number g (length (joined_text rs)) r refusal f n)
+    only text number room a t (meaning.table_too_small g rs p f) n = absurd (omega (arith, n))
+
+    always : (text : List ℕ) (number room : ℕ) (g : Grammar) (rs : List Reading) (rest : List ℕ) (k : ℕ) → Broken text number g rs rest k
+        → GrammarRefusalNumber (number_of (index_of text number room))
+    always text number room g rs rest k b =
+        let (_, tells) = broken_tells text number g rs rest k b in
+        let f = part_fails g (take k rest) (length (joined_text rs) + k) _ tells in
+        let given = indexes_index text number room _ _ (meaning.refused (meaning.grammar_fails g rs rest k b f)) in
+        subst (λ (a : IndexAnswer). GrammarRefusalNumber (number_of a)) given.0 (grammar_fails_lem g (take k rest) (length (joined_text rs) + k) _ f).0
 
 -- ---- Alike
 

@@ -286,6 +286,15 @@ broken_refuses text number g rs rest k b = go (accepting (scan_behind g rs rest)
         absurd (longer w.reading w.behind w.joined w.shapes (ltb k (length (text_of w.reading))) refl)
     go false a = refl
 
+-- The scan of what stands there stops at its longest start, and tells which part of the message it was reading.
+pub broken_tells : (text : List ℕ) (number : ℕ) (g : Grammar) (rs : List Reading) (rest : List ℕ) (k : ℕ) → Broken text number g rs rest k
+    → ((scan_behind g rs rest).length ≡ k) × Tells g (take k rest) (part_of (scan_behind g rs rest).phase)
+broken_tells text number g rs rest k b =
+    let next = next_broken g rs rest b.judged.shapes (all_whole_unextended g rs rest b.judged.whole) (broken_refuses text number g rs rest k b) in
+    let q : length (joined_text rs) + (scan_behind g rs rest).length ≡ length (joined_text rs) + k = longest_unique _ _ next.longest (subst (λ t. LongestStart (BundleParse g) t (length (joined_text rs) + k)) b.judged.joined b.longest) in
+    let same : (scan_behind g rs rest).length ≡ k = omega (arith, q) in
+    (same, subst (λ i. Tells g (take i rest) (part_of (scan_behind g rs rest).phase)) same next.tells)
+
 pub refuses_walk : (text : List ℕ) (number : ℕ) (refusal : Refusal) → Refuses text number refusal → walk_by (grammar_of number) text ≡ fault refusal
 refuses_walk text number refusal (meaning.not_admitted (rows.unknown_grammar e)) = ap (λ n. walk_by n text) e
 refuses_walk text number refusal (meaning.not_admitted (rows.text_too_long g e h)) =
@@ -306,19 +315,14 @@ refuses_walk text number refusal (meaning.grammar_fails g rs rest k b f) =
     some : 0 < length rest
     some = some_bytes rest (broken_rest text number g rs rest k b)
 
-    refuses : accepting (scan_behind g rs rest).phase ≡ false
-    refuses = broken_refuses text number g rs rest k b
-
     last : (most : ℕ) → length rest ≤ most → walk_behind most g text rs ≡ fault refusal
     last zero n = absurd (omega (arith, some))
     last (suc most) n =
-        let next = next_broken g rs rest b.judged.shapes (all_whole_unextended g rs rest b.judged.whole) refuses in
-        let q : length (joined_text rs) + (scan_behind g rs rest).length ≡ length (joined_text rs) + k = longest_unique _ _ next.longest (subst (λ t. LongestStart (BundleParse g) t (length (joined_text rs) + k)) b.judged.joined b.longest) in
-        let same : (scan_behind g rs rest).length ≡ k = omega (arith, q) in
+        let (same, tells) = broken_tells text number g rs rest k b in
         let p : Part = part_of (scan_behind g rs rest).phase in
-        walk_broken most g text rs rest b.judged.joined some refuses
-        ∙ ap (λ i. fault (grammar_refusal p i)) q
-        ∙ ap fault (fails_part g (take k rest) (length (joined_text rs) + k) p refusal (subst (λ i. Tells g (take i rest) p) same next.tells) f)
+        walk_broken most g text rs rest b.judged.joined some (broken_refuses text number g rs rest k b)
+        ∙ ap (λ i. fault (grammar_refusal p (length (joined_text rs) + i))) same
+        ∙ ap fault (fails_part g (take k rest) (length (joined_text rs) + k) p refusal tells f)
 
 -- ---- The call
 

@@ -1,13 +1,38 @@
--- What demand 3 says of the index call, on the definitions that the call's promise equals. Assumes nothing.
+-- What demands 2 and 3 say of the index call, on the definitions that the call's promise equals. Assumes nothing.
 use Rattle.std.specs.Prelude.{◌≡◌, List, ◌++◌, ℕ, ◌-◌, ◌≤◌, length, replicate}
 use Rattle.base_64.specs.Lists.{All}
 use Rattle.grammar.specs.Grammars.{grammar_of}
+use Rattle.grammar.specs.Message.{Reading}
 use Rattle.grammar.specs.Bundle.{Item, Bundle}
+use Rattle.grammar.specs.Starts.{BundleParse, LongestStart}
 use Rattle.grammar.specs.declared.Grammar.{Grammar}
 use Rattle.grammar.specs.declared.Numbered.TheVariants.{Known}
 use Rattle.reading.specs.Limits.{text_limit, label_limit}
-use Rattle.indexing.specs.Answers.{number_of, size_of}
+use Rattle.reading.specs.Meaning.{Admitted}
+use Rattle.reading.specs.Claims.{GrammarRefusalNumber}
+use Rattle.indexing.specs.Answers.{number_of, place_of, size_of}
+use Rattle.indexing.specs.Meaning.{Broken}
 use Rattle.indexing.specs.Index.{index_of, lent_table}
+
+-- ---- Demand 2
+
+-- Checks 1 and 2 pass, the text is no bundle of the grammar alone, and the place is the length of the longest start that some bundle
+-- begins with.
+pub record BrokenBundle (text : List ℕ) (number place : ℕ) : Type 0 where
+  pub grammar : Grammar
+  pub admitted : Admitted text number grammar
+  pub none : ¬ BundleParse grammar text
+  pub longest : LongestStart (BundleParse grammar) text place
+
+-- It answers 3, 4 or 5 to such a text only, and names that place; and always where the whole messages before that place have passed
+-- the checks 6 to 9, by which they are judged first.
+pub record BundlePlace : Type 0 where
+  pub only : (text : List ℕ) (number room : ℕ) → GrammarRefusalNumber (number_of (index_of text number room))
+      → BrokenBundle text number (place_of (index_of text number room))
+  pub always : (text : List ℕ) (number room : ℕ) (g : Grammar) (rs : List Reading) (rest : List ℕ) (k : ℕ) → Broken text number g rs rest k
+      → GrammarRefusalNumber (number_of (index_of text number room))
+
+-- ---- Demand 3
 
 -- The grammar of this number accepts the text: it has a list under it as a bundle. No limit plays a part.
 pub record Accepts (number : ℕ) (text : List ℕ) : Type 0 where

@@ -5,8 +5,10 @@ pub mod Places
 pub mod Checks
 pub mod Judgements
 pub mod Whole
+pub mod Parts
 pub mod Meaning
 pub mod Results
+pub mod Claims
 pub mod Scans
 pub mod Ends
 pub mod Samples

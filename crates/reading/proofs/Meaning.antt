@@ -25,7 +25,10 @@ use Rattle.machine.proofs.Machine.{part_of}
 use Rattle.machine.specs.declared.Part.{Part}
 use Rattle.reading.specs.Limits.{text_limit}
 use Rattle.reading.specs.Meaning as rows
-use Rattle.reading.specs.Meaning.{label_start, Admitted, Parsed, Broken, Passed, Refuses, found_of, Reads, HandsBack}
+use Rattle.reading.specs.Meaning.{label_start, Admitted, Parsed, Broken, Passed, Refuses, found_of, Reads, HandsBack, HandsBackPlace, HandsBackPart}
+use Rattle.reading.specs.Parts.{OwnPart}
+use Rattle.reading.specs.Answers.{span}
+use Rattle.reading.specs.Label.{label_span, label_span_of}
 use Rattle.reading.specs.Ends.{ends_in, counted_style}
 use Rattle.reading.specs.Scan.{tally}
 use Rattle.reading.specs.Read.{spanned, layout_of, Lies, grammar_refusal, is_whole, judged_parts, judged_by, judge_of, answered, read_of, written, output_of, label_in, label_of}
@@ -36,6 +39,9 @@ use Rattle.reading.specs.declared.Layout.{Layout}
 use Rattle.reading.specs.declared.ReadAnswer.{ReadAnswer}
 use Rattle.reading.specs.declared.ReadAnswer.TheVariants as answer
 use Rattle.reading.specs.declared.Refusal.{Refusal}
+use denote.Ref.{Bor}
+use Rattle.reading.specs.declared.Span.{Span}
+use Rattle.reading.proofs.Parts.{own_length, own_unique}
 use Rattle.reading.proofs.Ends.{ends_found}
 use Rattle.reading.proofs.Tallies.{tally_of}
 use Rattle.reading.proofs.Places.{TallyFits, reading_fits, reading_layout, label_part, body_part, text_length, opening_length, closing_length}
@@ -225,6 +231,56 @@ pub hands_back_label : (text : List ℕ) (number : ℕ) (l : List ℕ) → Hands
 hands_back_label text number l (rows.label g r p h) = sym (ap (λ j. label_in j text) (passed_judge text number g r p) ∙ label_start_lem text r)
 hands_back_label text number l (rows.none {refusal} f) = sym (ap (λ j. label_in j text) (refuses_judge text number refusal f))
 
+-- ---- The label's part, by its place
+
+-- The part where the opening label stands holds it.
+pub label_there : (text : List ℕ) (r : Reading) → text ≡ text_of r → spanned text (span (label_start r) (length r.opening_label)) ≡ r.opening_label
+label_there text r e = ap (λ t. spanned t (span (label_start r) (length r.opening_label))) (alone text r e) ∙ rw zero-add at (label_part [] r [])
+
+-- It is the part that the judgement of a message which passed tells.
+label_span_lem : (r : Reading) → label_span (sound_reading 0 r) ≡ span (label_start r) (length r.opening_label)
+label_span_lem r = ap (λ n. span n (length r.opening_label)) (zero-add (label_start r))
+
+-- Where `label` is defined to find its part is what the rows say.
+pub label_lies : (text : List ℕ) (number : ℕ) → HandsBackPlace text number (label_span_of text number).at.0 (label_span_of text number).length
+label_lies text number = go (judge_of text number) (judge_means text number)
+  where
+    go : (j : Judgement) → Judged text number j → HandsBackPlace text number (label_span j).at.0 (label_span j).length
+    go j (sound g r p) = subst (λ (s : Span). HandsBackPlace text number s.at.0 s.length) (sym (label_span_lem r)) (rows.stands g r p (label_there text r p.parsed.joined))
+    go j (refused f) = rows.empty f 0
+
+-- Where it is in a text that passed, and in one that is refused.
+pub passed_span : (text : List ℕ) (number : ℕ) (g : Grammar) (r : Reading) → Passed text number g r
+    → label_span_of text number ≡ span (label_start r) (length r.opening_label)
+passed_span text number g r p = ap label_span (passed_judge text number g r p) ∙ label_span_lem r
+
+pub refuses_span : (text : List ℕ) (number : ℕ) (refusal : Refusal) → Refuses text number refusal → label_span_of text number ≡ span 0 0
+refuses_span text number refusal f = ap label_span (refuses_judge text number refusal f)
+
+-- The bytes of that part are those that `label` is defined to hand back.
+pub label_spanned : (text : List ℕ) (number : ℕ) → spanned text (label_span_of text number) ≡ label_of text number
+label_spanned text number = go (judge_of text number)
+  where
+    go : (j : Judgement) → spanned text (label_span j) ≡ label_in j text
+    go (judgement.Refused r) = refl
+    go (judgement.Sound l found style) = refl
+
+-- No label starts at 0, so only a refused text has its part there.
+pub zero_refused : (text : List ℕ) (number at n : ℕ) → HandsBackPlace text number at n → at ≡ 0 → (refusal : Refusal) × Refuses text number refusal
+zero_refused text number at n (rows.stands g r p h) z = absurd (omega (arith, z))
+zero_refused text number at n (rows.empty {refusal} f _) z = (refusal, f)
+
+-- The rows leave no other length and no other bytes, and no other place where nothing refuses.
+pub hands_back_place : (text : List ℕ) (number at n : ℕ) → HandsBackPlace text number at n
+    → (n ≡ (label_span_of text number).length) × (take n (drop at text) ≡ label_of text number)
+    × (((refusal : Refusal) → ¬ Refuses text number refusal) → at ≡ (label_span_of text number).at.0)
+hands_back_place text number at n (rows.stands g r p h) =
+    let e = passed_span text number g r p in
+    (ap (λ (s : Span). s.length) (sym e), ap (spanned text) (sym e) ∙ label_spanned text number, λ _. ap (λ (s : Span). s.at.0) (sym e))
+hands_back_place text number at n (rows.empty {refusal} f _) =
+    let e = refuses_span text number refusal f in
+    (ap (λ (s : Span). s.length) (sym e), ap (spanned text) (sym e) ∙ label_spanned text number, λ passed. absurd (passed refusal f))
+
 -- ---- What the code has to know of a judgement that passed
 
 pub sound_fits : (text : List ℕ) (number : ℕ) (l : Layout) (found : Found) (style : LineStyle) → judge_of text number ≡ judgement.Sound l found style
@@ -252,3 +308,27 @@ pub whole_fits : (g : Grammar) (text : List ℕ) → is_whole (scanned g text) (
 whole_fits g text e =
     let q : WholeReading g text = whole_reading g text e in
     rw (q.counted, ap length q.joined) (reading_fits q.reading)
+
+-- The label's part lies within the text.
+pub label_fits : (text : List ℕ) (number : ℕ) → (label_span_of text number).at.0 + (label_span_of text number).length ≤ length text
+label_fits text number = go (judge_of text number) refl
+  where
+    go : (j : Judgement) → judge_of text number ≡ j → (label_span j).at.0 + (label_span j).length ≤ length text
+    go (judgement.Refused r) e = omega arith
+    go (judgement.Sound l found style) e = (sound_fits text number l found style e).0.0
+
+-- A slice that is this part of the text is what the label call hands back.
+pub hands_back_part : (text part : Bor (List ℕ)) (number : ℕ) (s : Span) → s ≡ label_span_of text.now number
+    → OwnPart text s.at.0 s.length part → HandsBackPart text number part
+hands_back_part text part number s e p =
+    let n : length part.now ≡ s.length = own_length text s.at.0 s.length part p in
+    record { at = s.at.0; hands_back = rw (n, e) (label_lies text.now number); is_part = rw n p }
+
+-- Where nothing refuses, no other slice is: it has one address.
+pub hands_back_one : (text part other : Bor (List ℕ)) (number : ℕ) → ((refusal : Refusal) → ¬ Refuses text.now number refusal)
+    → HandsBackPart text number part → HandsBackPart text number other → (part.ref_ptr ≡ other.ref_ptr) × (part.now ≡ other.now)
+hands_back_one text part other number passed p q =
+    let (n, _, at) = hands_back_place text.now number _ _ p.hands_back in
+    let (n', _, at') = hands_back_place text.now number _ _ q.hands_back in
+    own_unique text (label_span_of text.now number).at.0 (label_span_of text.now number).length part other
+    (rw (n, at passed) at p.is_part) (rw (n', at' passed) at q.is_part)

@@ -1,6 +1,7 @@
 -- What the numbers 0 to 10 of the read call mean, row by row in the requirements' order and in the grammars' relations.
 -- Assumes nothing.
 use Rattle.std.specs.Prelude.{◌≡◌, ◌≢◌, List, [], ◌∷◌, ◌++◌, ℕ, ◌+◌, ◌-◌, ◌≤◌, ◌<◌, length, take, drop, replicate}
+use Rattle.std.specs.Borrow.{Bor}
 use Rattle.base_64.specs.Lists.{All}
 use Rattle.base_64.specs.Alphabet.{AlphabetChar}
 use Rattle.base_64.specs.Groups.{CountsFit}
@@ -16,6 +17,7 @@ use Rattle.grammar.specs.declared.Grammar.{Grammar}
 use Rattle.grammar.specs.declared.Numbered.TheVariants.{Known, Unknown}
 use Rattle.reading.specs.Limits.{text_limit, label_limit}
 use Rattle.reading.specs.Answers.{offset, byte_count, span, family}
+use Rattle.reading.specs.Parts.{OwnPart}
 use Rattle.reading.specs.declared.Found.{Found}
 use Rattle.reading.specs.declared.Refusal.{Refusal}
 use Rattle.reading.specs.declared.Refusal.TheVariants.{UnknownGrammar, TextTooLong, BadOpening, BadBody, BadClosing, LabelTooLong, LabelsDiffer, BadCounts, SpareBits}
@@ -133,3 +135,17 @@ pub data HandsBack (text : List ℕ) (number : ℕ) : List ℕ → Type 0 where
       → HandsBack text number (take (length r.opening_label) (drop (label_start r) text))
   -- where checks 1 to 9 refuse, the empty part; where it starts is left free
   none : {refusal : Refusal} → Refuses text number refusal → HandsBack text number []
+
+-- The same part by its offset and its length.
+pub data HandsBackPlace (text : List ℕ) (number : ℕ) : (at n : ℕ) → Type 0 where
+  -- the opening label, where it stands
+  stands : (g : Grammar) (r : Reading) → Passed text number g r → take (length r.opening_label) (drop (label_start r) text) ≡ r.opening_label
+      → HandsBackPlace text number (label_start r) (length r.opening_label)
+  -- where checks 1 to 9 refuse, an empty part; where it starts is left free
+  empty : {refusal : Refusal} → Refuses text number refusal → (at : ℕ) → HandsBackPlace text number at 0
+
+-- What the label call hands back: that part of the lent text itself, with its address.
+pub record HandsBackPart (text : Bor (List ℕ)) (number : ℕ) (part : Bor (List ℕ)) : Type 0 where
+  pub at : ℕ
+  pub hands_back : HandsBackPlace text.now number at (length part.now)
+  pub is_part : OwnPart text at (length part.now) part

@@ -33,6 +33,7 @@ use Rattle.grammar.proofs.Bundle.{later_shapes, bundle_unique}
 use Rattle.grammar.proofs.Counts.{characters_append}
 use Rattle.reading.specs.Limits.{text_limit}
 use Rattle.reading.specs.Meaning.{Passed}
+use Rattle.reading.proofs.Whole.{front_same}
 use Rattle.reading.specs.Read.{label_of}
 use Rattle.reading.specs.Answers as reader
 use Rattle.reading.specs.Answers.{byte_count, span, family}
@@ -43,13 +44,13 @@ use Rattle.writing.specs.Answers.{text_size, refusal_number, number_of, size_of}
 use Rattle.writing.specs.Text.{written_text, second_bytes, written_size}
 use Rattle.writing.specs.Meaning.{Refuses, Takes}
 use Rattle.writing.specs.Write.{judge_of, answered, write_of, write_output}
-use Rattle.writing.specs.Claims.{TakesExactly, Written, ReadsBack, data_read, Restores, largest, Largest, TakesItem, WrittenList, none, next, OneList}
+use Rattle.writing.specs.Claims.{TakesExactly, AnswersZero, Writable, ZeroExactly, Written, WrittenLength, ReadsBack, data_read, Restores, largest, Largest, TakesItem, WrittenList, none, next, OneList}
 use Rattle.writing.specs.declared.Judgement.{Judgement}
 use Rattle.writing.specs.declared.WriteAnswer.TheVariants as answer
 use Rattle.writing.specs.declared.WriteRefusal.{WriteRefusal}
 use Rattle.writing.specs.declared.WriteRefusal.TheVariants.{LabelTooLong, NotALabel, NoData, DataTooLong, UnknownStyle}
 use Rattle.writing.proofs.Lines.{lines_some}
-use Rattle.writing.proofs.Text.{written_reading, written_joined, written_shape, written_consistent, written_data, written_strict, style_alike, reading_written, length_written}
+use Rattle.writing.proofs.Text.{written_reading, written_joined, written_shape, written_consistent, written_data, written_strict, style_alike, reading_written, strict_written, length_written}
 use Rattle.writing.proofs.Meaning.{Judged, takes, refuses, judge_means, takes_judge, refuses_judge, takes_answer}
 
 -- ---- what the writer takes
@@ -80,22 +81,69 @@ refusal_some NoData e = omega (arith, e)
 refusal_some DataTooLong e = omega (arith, e)
 refusal_some UnknownStyle e = omega (arith, e)
 
--- A label and data answered with 0 are taken, and have room.
+-- A label and data answered with 0 are taken, in a style, and have room.
+zero_styled : (label content : List ℕ) (number room : ℕ) → number_of (write_of label content number room) ≡ 0
+    → (s : LineEnding) × ((line_ending_of number ≡ end.Known s) × Takes label content × (length (written_text s label content) ≤ room))
+zero_styled label content number room z = go (judge_of label content number) (judge_means label content number) z
+  where
+    fits : (s : LineEnding) → Takes label content → (b : Bool) → ltb room (written_size s (length label) (length content)) ≡ b
+        → number_of (cond b (answer.OutputTooSmall (text_size (written_size s (length label) (length content)))) (answer.Accepted (text_size (written_size s (length label) (length content))))) ≡ 0
+        → length (written_text s label content) ≤ room
+    fits s t true e z = absurd (omega (arith, z))
+    fits s t false e z = omega (arith, ltb-false room (written_size s (length label) (length content)) e, length_written s label content t.some_data)
+
+    go : (j : Judgement) → Judged label content number j → number_of (answered j room) ≡ 0
+        → (s : LineEnding) × ((line_ending_of number ≡ end.Known s) × Takes label content × (length (written_text s label content) ≤ room))
+    go j (takes s t k) z = (s, (k, t, fits s t (ltb room (written_size s (length label) (length content))) refl z))
+    go j (refuses {refusal} f) z = absurd (refusal_some refusal z)
+
+-- The same where the style is known.
 zero_takes : (s : LineEnding) (label content : List ℕ) (number room : ℕ) → line_ending_of number ≡ end.Known s → number_of (write_of label content number room) ≡ 0
     → Takes label content × (length (written_text s label content) ≤ room)
-zero_takes s label content number room k z = go (judge_of label content number) (judge_means label content number) z
-  where
-    fits : (u : LineEnding) → Takes label content → line_ending_of number ≡ end.Known u → (b : Bool) → ltb room (written_size u (length label) (length content)) ≡ b
-        → number_of (cond b (answer.OutputTooSmall (text_size (written_size u (length label) (length content)))) (answer.Accepted (text_size (written_size u (length label) (length content))))) ≡ 0
-        → Takes label content × (length (written_text s label content) ≤ room)
-    fits u t l true e z = absurd (omega (arith, z))
-    fits u t l false e z =
-        let same : u ≡ s = cc (k, l) in
-        (t, subst (λ v. length (written_text v label content) ≤ room) same (omega (arith, ltb-false room (written_size u (length label) (length content)) e, length_written u label content t.some_data)))
+zero_takes s label content number room k z =
+    let (u, (l, t, h)) = zero_styled label content number room z in
+    let same : u ≡ s = cc (k, l) in
+    (t, subst (λ v. length (written_text v label content) ≤ room) same h)
 
-    go : (j : Judgement) → Judged label content number j → number_of (answered j room) ≡ 0 → Takes label content × (length (written_text s label content) ≤ room)
-    go j (takes u t l) z = fits u t l (ltb room (written_size u (length label) (length content))) refl z
-    go j (refuses {refusal} f) z = absurd (refusal_some refusal z)
+-- A label and data that are taken, with room, are answered 0 with the written text.
+takes_zero : (s : LineEnding) (label content : List ℕ) (number room : ℕ) → Takes label content → line_ending_of number ≡ end.Known s
+    → length (written_text s label content) ≤ room → AnswersZero label content number room (written_text s label content)
+takes_zero s label content number room t k h =
+    let given = takes_answer s label content number room t k h in
+    record { zero = ap number_of given.0; size = ap size_of given.0; held = given.1 }
+
+-- An answer 0 is with the written text.
+zero_text : (label content : List ℕ) (number room : ℕ) (text : List ℕ) → AnswersZero label content number room text → (s : LineEnding)
+    → line_ending_of number ≡ end.Known s → Takes label content → length (written_text s label content) ≤ room → text ≡ written_text s label content
+zero_text label content number room text z s k t h =
+    let y = takes_zero s label content number room t k h in
+    front_same text _ (written_text s label content) _ (sym z.held ∙ y.held) (sym z.size ∙ y.size)
+
+pub zero_exactly : ZeroExactly
+zero_exactly = record { only = only; always = always; some = some; each = each }
+  where
+    only : (label content : List ℕ) (number room : ℕ) (text : List ℕ) → All Octet content → AnswersZero label content number room text
+        → Writable label content number room text
+    only label content number room text octets z =
+        let (s, (k, t, h)) = zero_styled label content number room z.zero in
+        rw (zero_text label content number room text z s k t h)
+        record { takes = t; style = s; known = k; strict = written_strict s label content octets t.is_label t.some_data; fits = h }
+
+    always : (label content : List ℕ) (number room : ℕ) (text : List ℕ) → Writable label content number room text
+        → AnswersZero label content number room text
+    always label content number room text w =
+        let same : text ≡ written_text w.style label content = strict_written w.style text label content w.strict in
+        rw same (takes_zero w.style label content number room w.takes w.known (rw same at w.fits))
+
+    some : (label content : List ℕ) (number room : ℕ) → number_of (write_of label content number room) ≡ 0
+        → (text : List ℕ) × AnswersZero label content number room text
+    some label content number room z =
+        let (s, (k, t, h)) = zero_styled label content number room z in
+        (written_text s label content, takes_zero s label content number room t k h)
+
+    each : (label content : List ℕ) (number room : ℕ) (s : LineEnding) → Takes label content → line_ending_of number ≡ end.Known s
+        → written_size s (length label) (length content) ≤ room → number_of (write_of label content number room) ≡ 0
+    each label content number room s t k h = (takes_zero s label content number room t k (rw (length_written s label content t.some_data) h)).zero
 
 -- The writer's result is the written text.
 written_text_lem : (s : LineEnding) (label content text : List ℕ) → Written s label content text → Takes label content × (text ≡ written_text s label content)
@@ -113,6 +161,11 @@ takes_written s label content t =
       zero = ap number_of given.0;
       result = sym ((λ i. take (size_of (given.0 i)) (given.1 i)) ∙ take-append_seam (written_text s label content) _);
     }
+
+pub written_length : WrittenLength
+written_length s label content text w =
+    let (t, same) = written_text_lem s label content text w in
+    rw same (length_written s label content t.some_data)
 
 -- ---- the largest text
 

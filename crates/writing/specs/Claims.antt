@@ -21,7 +21,8 @@ use Rattle.reading.specs.Read.{read_of, output_of, label_of}
 use Rattle.reading.specs.declared.ReadAnswer.TheVariants as read
 use Rattle.writing.specs.Limits.{data_limit}
 use Rattle.writing.specs.Answers.{text_size, number_of, size_of}
-use Rattle.writing.specs.Meaning.{Refuses, Takes}
+use Rattle.writing.specs.Text.{written_size}
+use Rattle.writing.specs.Meaning.{Refuses, Takes, StrictText}
 use Rattle.writing.specs.Write.{write_of, write_output}
 use Rattle.writing.specs.declared.WriteAnswer.TheVariants.{Accepted}
 use Rattle.writing.specs.declared.WriteRefusal.{WriteRefusal}
@@ -35,12 +36,44 @@ pub record TakesExactly : Type 0 where
   pub always : (label content : List ℕ) (number : ℕ) → ((refusal : WriteRefusal) → ¬ Refuses label content number refusal)
       → Takes label content × ((s : LineEnding) × (line_ending_of number ≡ end.Known s))
 
+-- It answers 0 with this text: so many bytes, and then zeros.
+pub record AnswersZero (label content : List ℕ) (number room : ℕ) (text : List ℕ) : Type 0 where
+  pub zero : number_of (write_of label content number room) ≡ 0
+  pub size : size_of (write_of label content number room) ≡ length text
+  pub held : write_output label content number room ≡ text ++ replicate (room - length text) 0
+
+-- The label is a label of at most 64 bytes, the data has 1 to 8,388,608 bytes, the number is that of a style, the text is the strict
+-- text of this label and data in that style, and it fits.
+pub record Writable (label content : List ℕ) (number room : ℕ) (text : List ℕ) : Type 0 where
+  pub takes : Takes label content
+  pub style : LineEnding
+  pub known : line_ending_of number ≡ end.Known style
+  pub strict : StrictText style text label content
+  pub fits : length text ≤ room
+
+-- It answers 0 with a text only where that can be written of this label and data, and always there; and where it answers 0, it is with
+-- a text. So it does for each label and data that it takes, in each style, given room for 32 + 2L + 4⌈n/3⌉ + ⌈n/48⌉ bytes (under CRLF
+-- more, K7). Data is bytes.
+pub record ZeroExactly : Type 0 where
+  pub only : (label content : List ℕ) (number room : ℕ) (text : List ℕ) → All Octet content → AnswersZero label content number room text
+      → Writable label content number room text
+  pub always : (label content : List ℕ) (number room : ℕ) (text : List ℕ) → Writable label content number room text
+      → AnswersZero label content number room text
+  pub some : (label content : List ℕ) (number room : ℕ) → number_of (write_of label content number room) ≡ 0
+      → (text : List ℕ) × AnswersZero label content number room text
+  pub each : (label content : List ℕ) (number room : ℕ) (s : LineEnding) → Takes label content → line_ending_of number ≡ end.Known s
+      → written_size s (length label) (length content) ≤ room → number_of (write_of label content number room) ≡ 0
+
 -- The text is the writer's result for the label and data in a style, given room: the call answers 0, and the text is the first
 -- bytes of its output, as many as its size says.
 pub record Written (s : LineEnding) (label content text : List ℕ) : Type 0 where
   pub room : ℕ
   pub zero : number_of (write_of label content (line_ending_number s) room) ≡ 0
   pub result : text ≡ take (size_of (write_of label content (line_ending_number s) room)) (write_output label content (line_ending_number s) room)
+
+-- The length of the writer's result: 32 + 2L + 4⌈n/3⌉ + ⌈n/48⌉ for a label of L and data of n bytes, and under CRLF a byte more for each line end (K7).
+abbrev pub WrittenLength : Type 0
+WrittenLength = (s : LineEnding) (label content text : List ℕ) → Written s label content text → length text ≡ written_size s (length label) (length content)
 
 -- Reading what was written returns label, data and style under each of the three grammars, given room, and the label's family:
 -- the read call's output holds the data and then zeros, and the label call hands back the label.
