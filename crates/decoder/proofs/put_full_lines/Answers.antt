@@ -1,5 +1,4 @@
--- Lines are counted by their length, whichever of the tests ends the loop; a line that was written in vain leaves them as they were.
--- Assumes nothing.
+-- Lines are counted by their length, whichever test ends the loop; a line written in vain leaves them as they were. Assumes nothing.
 use Rattle.std.proofs.Common.{true, arith}
 use Rattle.runs.proofs.Runs.{line_end_inside}
 use Rattle.runs.proofs.Lined.{lines_inside}
