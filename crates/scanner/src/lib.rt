@@ -2,6 +2,7 @@
 // Runs of bytes that keep the machine in phases of one kind are passed at once. Each such function promises that the scan goes on
 // behind the run as if it had read the bytes one by one; the machine's own step decides whatever no run covers.
 #![tactic(auto)]
+
 ghost use Rattle.std.specs.Prelude.{◌≡◌, ◌≢◌, true, false, ◌+◌, ◌-◌, ◌*◌, ◌≤◌, ◌<◌, ◌^◌, length, drop, get_or};
 ghost use Rattle.base_64.specs.Values.{DecodeTable};
 ghost use Rattle.grammar.specs.declared.Grammar.{Grammar};

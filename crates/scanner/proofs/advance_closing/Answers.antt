@@ -1,8 +1,7 @@
 -- `scanner::advance_closing` meets its contract. Assumes nothing.
-use Rattle.std.proofs.Common.{refl, arith}
-use Rattle.machine.specs.declared.Boundary.TheVariants.{Closing}
+use Rattle.std.proofs.Common.{arith}
 use Rattle.scanner.proofs.Advances.{advanced_then}
-use Rattle.scanner.proofs.Boundaries.{closing_leap, boundary_countable}
+use Rattle.scanner.proofs.Boundaries.{closing_leap}
 use Rattle.scanner.proofs.advance_closing.Goals as goal
 
 pub returns-then-not-closes : goal.returns-then-not-closes

@@ -1,5 +1,5 @@
 -- `scanner::advance_word` meets its contract. Assumes nothing.
-use Rattle.std.proofs.Common.{refl, arith}
+use Rattle.std.proofs.Common.{refl}
 use Rattle.scanner.proofs.Boundaries.{with_phase, word_leap, boundary_countable}
 use Rattle.scanner.proofs.advance_word.Goals as goal
 
