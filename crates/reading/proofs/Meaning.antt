@@ -30,7 +30,6 @@ use Rattle.reading.specs.Parts.{OwnPart}
 use Rattle.reading.specs.Answers.{span}
 use Rattle.reading.specs.Label.{label_span, label_span_of}
 use Rattle.reading.specs.Ends.{ends_in, counted_style}
-use Rattle.reading.specs.Scan.{tally}
 use Rattle.reading.specs.Read.{spanned, layout_of, Lies, grammar_refusal, is_whole, judged_parts, judged_by, judge_of, answered, read_of, written, output_of, label_in, label_of}
 use Rattle.reading.specs.declared.Found.{Found}
 use Rattle.reading.specs.declared.Judgement.{Judgement}

@@ -2,6 +2,7 @@
 // specs/Meaning says in the grammars' relations what a caller gets, and proofs/ that the definitions mean just that. The crate
 // `reader` has the code.
 #![tactic(auto)]
+
 use base_64::ByteCount;
 use grammar::{Family, LineStyle, TextOffset};
 use machine::Phase;
