@@ -2,6 +2,7 @@
 // specs/; specs/Meaning says in the grammars' relations what a caller gets, and proofs/ that the definitions mean just that. The
 // crate `index` has the code.
 #![tactic(auto)]
+
 use reading::{Found, Refusal, Span};
 
 // How many numbers a table has or needs.
