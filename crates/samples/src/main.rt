@@ -19,66 +19,75 @@
 // Each call is lent a buffer of its own. Buffers that were handed down would be followed through every function by the proofs,
 // whose cost goes by what a function holds.
 #![tactic(auto)]
+
 mod bundle;
 mod call;
 mod made;
 mod message;
 mod written;
 
-use libc::STDIN_FILENO;
+use std::io;
+use std::io::{BufWriter, Read, Write};
 use support::{bytes, expand, fields};
 
-// Room for all samples.
-const FORMS_SIZE: usize = 131072;
+// The most bytes of all samples that are read.
+const FORMS_SIZE: u64 = 131072;
 
-// Room for the text of a sample.
+// Room for the text, the label, the data or the output of a sample.
 const TEXT_SIZE: usize = 65536;
 
-fn run(form: &[u8], text: &[u8]) {
+fn run(writer: &mut impl Write, form: &[u8], text: &[u8]) -> io::Result<()> {
     let name = fields::field(form, 1);
     let room = fields::number(form, 2) as usize;
     match bytes::get(form, 0) {
-        b'e' => message::each(name, text, room),
-        b'i' => bundle::each(name, text, room),
-        b's' => bundle::starts(name, text, room),
-        b't' => bundle::line(name, text, fields::number(form, 0), room),
-        _ => message::line(name, text, fields::number(form, 0), room),
+        b'e' => message::each(writer, name, text, room),
+        b'i' => bundle::each(writer, name, text, room),
+        b's' => bundle::starts(writer, name, text, room),
+        b't' => bundle::line(writer, name, text, fields::number(form, 0), room),
+        _ => message::line(writer, name, text, fields::number(form, 0), room),
     }
 }
 
-fn text_sample(form: &[u8]) {
+fn text_sample(writer: &mut impl Write, form: &[u8]) -> io::Result<()> {
     let mut text = [0u8; TEXT_SIZE];
     let length = expand::expand(fields::rest(form, 4), fields::number(form, 3), &mut text);
-    run(form, bytes::part(&text, 0, length));
+    run(writer, form, bytes::part(&text, 0, length))
 }
 
 // One sample, without its first '@'.
-fn sample(form: &[u8]) {
+fn sample(writer: &mut impl Write, form: &[u8]) -> io::Result<()> {
     match bytes::get(form, 0) {
-        b'#' => (),
-        b'w' | b'b' | b'r' => written::sample(form),
-        _ => text_sample(form),
+        b'#' => Ok(()),
+        b'w' | b'b' | b'r' => written::sample(writer, form),
+        _ => text_sample(writer, form),
     }
 }
 
 // The sample whose '@' stands at `i`, if one does.
-fn sample_at(forms: &[u8], i: usize) {
+fn sample_at(writer: &mut impl Write, forms: &[u8], i: usize) -> io::Result<()> {
     if bytes::get(forms, i) == b'@' {
         let start = fields::behind(forms, i, b'@');
-        sample(bytes::part(forms, start, fields::behind(forms, start, b'@')));
+        sample(
+            writer,
+            bytes::part(forms, start, fields::behind(forms, start, b'@')),
+        )?;
     }
+    Ok(())
 }
 
-fn samples(forms: &[u8]) {
+fn samples(writer: &mut impl Write, forms: &[u8]) -> io::Result<()> {
     let mut i = 0;
     while i < forms.len() {
-        sample_at(forms, i);
+        sample_at(writer, forms, i)?;
         i += 1;
     }
+    Ok(())
 }
 
-fn main() {
-    let mut forms = [0u8; FORMS_SIZE];
-    let n = io::read_full(STDIN_FILENO, &mut forms);
-    samples(&forms[..n]);
+fn main(rt: HostRuntime) -> io::Result<()> {
+    let mut forms = Vec::new(rt.alloc());
+    rt.reader().take(FORMS_SIZE).read_to_end(&mut forms)?;
+    let mut writer = BufWriter::new(rt.alloc(), io::writer(&rt))?;
+    samples(&mut writer, &forms)?;
+    writer.flush()
 }
