@@ -4,6 +4,7 @@
 // each message gets a line: start, length, label and data size. A refusal is one line: number and place; more than 65,536 bytes
 // are a text that is too long. What keeps the program from its work is one line that starts with its name.
 #![tactic(auto)]
+
 mod listing;
 
 use grammar::Grammar;
@@ -11,6 +12,9 @@ use reading::Refusal;
 use shell::choice::Choice;
 use shell::input::Input;
 use shell::{choice, input};
+use std::env::{Env, FillError};
+use std::io;
+use std::io::{Read, Write};
 use support::{print, table};
 
 // One byte more than the program takes, so that a longer input is seen to be too long.
@@ -19,50 +23,55 @@ const TEXT_SIZE: usize = 65537;
 // No word that names a grammar is longer: a name has eight letters at most, a number nine digits.
 const WORD_SIZE: usize = 9;
 
-fn index(text: &[u8], grammar: u32) {
+fn index(writer: &mut impl Write, text: &[u8], grammar: u32) -> io::Result<()> {
     let mut lent = [0u32; table::SIZE];
     let mut report = [0u64; 8];
     let number = zullifern::zullifern_index(text, grammar, &mut lent, &mut report);
     if number == 0 {
-        listing::messages(text, &lent);
+        listing::messages(writer, text, &lent)
     } else {
-        listing::refusal(number, report[1]);
+        listing::refusal(writer, number, report[1])
     }
 }
 
-fn refuse(refusal: Refusal) {
+fn refuse(writer: &mut impl Write, refusal: Refusal) -> io::Result<()> {
     let place = reader::refusal_place(refusal);
-    listing::refusal(reader::refusal_number(refusal), place.0 as u64);
+    listing::refusal(writer, reader::refusal_number(refusal), place.0 as u64)
 }
 
-fn index_input(grammar: u32) {
+fn index_input(writer: &mut impl Write, stdin: &mut impl Read, grammar: u32) -> io::Result<()> {
     let mut text = [0u8; TEXT_SIZE];
-    match input::read(&mut text) {
-        Input::Bytes(n) => index(&text[..n], grammar),
-        Input::TooLong => refuse(input::long_refusal(grammar)),
-        Input::Unreadable => print::word(b"pem_index: standard input cannot be read\n"),
+    match input::read(stdin, &mut text) {
+        Input::Bytes(n) => index(writer, &text[..n], grammar),
+        Input::TooLong => refuse(writer, input::long_refusal(grammar)),
+        Input::Unreadable => print::word(writer, b"pem_index: standard input cannot be read\n"),
     }
 }
 
 // The grammar that the only argument names, or lax where there is none.
-fn chosen() -> Choice {
-    let count = os::arg_count();
-    if count < 2 {
-        return Choice::Number(Grammar::LAX);
-    }
-    if count > 2 {
+fn chosen(env: &impl Env) -> Choice {
+    let mut word = [0u8; WORD_SIZE];
+    if !matches!(env.arg(2, &mut word), Err(FillError::NotPresent)) {
         return Choice::Unknown;
     }
-    let mut word = [0u8; WORD_SIZE];
-    let n = os::arg(1, &mut word);
-    choice::of(&word[..n])
+    match env.arg(1, &mut word) {
+        Ok(n) => choice::of(&word[..n]),
+        Err(FillError::NotPresent) => Choice::Number(Grammar::LAX),
+        Err(FillError::TooLong) => Choice::Unknown,
+    }
 }
 
-fn main() {
-    match chosen() {
-        Choice::Number(number) => index_input(number),
+fn run(writer: &mut impl Write, stdin: &mut impl Read, env: &impl Env) -> io::Result<()> {
+    match chosen(env) {
+        Choice::Number(number) => index_input(writer, stdin, number),
         Choice::Unknown => print::word(
+            writer,
             b"pem_index: give one grammar (lax, standard, strict or a number) and the text on standard input\n",
         ),
     }
+}
+
+// What was written tells how it went, so the status is always 0, also where standard output cannot be written.
+fn main(rt: HostRuntime) {
+    let _ = run(&mut io::writer(&rt), &mut rt.stdin(), &rt);
 }
