@@ -1,6 +1,6 @@
 -- The starts of texts: how far a text could still have become one of the grammar. Labels that differ or are too long, counts,
 -- spare bits and limits play no part here; what a label may be does. Assumes nothing.
-use Rattle.std.specs.Prelude.{◌≡◌, List, [], ◌∷◌, ◌++◌, ℕ, ◌≤◌, ◌<◌, length, take}
+use Rattle.std.specs.Prelude.{◌≡◌, List, ◌∷◌, ◌++◌, ℕ, ◌≤◌, ◌<◌, length, take}
 use Rattle.grammar.specs.Marks.{hyphen, opening, Label}
 use Rattle.grammar.specs.Grammars.{Before, Body}
 use Rattle.grammar.specs.Message.{Reading, text_of, Shape}

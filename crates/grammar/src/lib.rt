@@ -1,6 +1,7 @@
 // The three grammars of RFC 7468 text. Their meaning stands in specs/, as relations on the parts of a text; the theorems
 // about them stand in proofs/.
 #![tactic(auto)]
+
 ghost use Rattle.std.specs.Prelude.{◌≡◌, ◌+◌, ◌^◌, ◌<◌, length};
 ghost use Rattle.grammar.specs.Marks.{begin, end};
 ghost use Rattle.grammar.specs.Grammars.{grammar_of};

@@ -37,7 +37,7 @@ use Rattle.machine.proofs.Lax.{lax_closes, lax_ends, lax_way}
 use Rattle.machine.proofs.Standard.{standard_closes, standard_ends, standard_way}
 use Rattle.machine.proofs.Strict.{strict_closes, strict_ends, strict_way}
 use Rattle.machine.proofs.Boundaries.{word_run, before_run}
-use Rattle.machine.proofs.Messages.{behind_body, behind_after, dead}
+use Rattle.machine.proofs.Messages.{behind_body, behind_after}
 
 -- ---- The machine reads each part of a text of the grammar
 

@@ -23,7 +23,7 @@ use Rattle.machine.specs.declared.Phase.{Phase}
 use Rattle.machine.specs.declared.Phase.TheVariants.{Before, Word, Label, Lax, Standard, Strict, Dead}
 use Rattle.machine.specs.declared.State.{State}
 use Rattle.machine.proofs.Parts.{rank, next_rises, run_rises}
-use Rattle.machine.proofs.Labels.{Ended, ended}
+use Rattle.machine.proofs.Labels.{ended}
 use Rattle.machine.proofs.Bodies.{seen_behind, BodyRest, AfterRest, Way, dies, stays, closes}
 use Rattle.machine.proofs.Lax.{lax_before, lax_ways, lax_after, lax_accepting}
 use Rattle.machine.proofs.Standard.{standard_before, standard_ways, standard_after, standard_accepting}

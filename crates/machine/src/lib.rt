@@ -3,6 +3,7 @@
 // relations. The crates `transitions` and `engine` have its code.
 // The kinds of byte that the grammars tell apart.
 #![tactic(auto)]
+
 #[derive(Clone, Copy)]
 pub enum Kind {
     Tab,

@@ -1,5 +1,6 @@
 // A lent output: its bytes set to zero, so that nothing of what stood in it is left, and numbers written to it.
 #![tactic(auto)]
+
 ghost use Rattle.std.specs.Prelude.{◌≡◌, ◌++◌, ◌+◌, ◌-◌, ◌/◌, ◌%◌, ◌≤◌, length, set, take, replicate};
 
 // Sets every byte from a place on to zero.

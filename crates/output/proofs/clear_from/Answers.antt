@@ -1,5 +1,4 @@
 -- Assumes nothing.
-use Rattle.std.proofs.Common.{rules}
 use Rattle.output.proofs.Zeros.{cleared_none, cleared_next, cleared_all}
 use Rattle.output.proofs.clear_from.Goals as goal
 
