@@ -1,6 +1,7 @@
 // Indexing a bundle: its messages judged from the left by the reader's scan and checks, and the table of their numbers.
 // The definitions that the contracts cite stand in the crate `indexing`.
 #![tactic(auto)]
+
 ghost use Rattle.std.specs.Prelude.{◌≡◌, ◌+◌, ◌≤◌, ◌<◌, ◌^◌, length, replicate};
 ghost use Rattle.base_64.specs.Values.{DecodeTable};
 ghost use Rattle.grammar.specs.Grammars.{grammar_of};

@@ -1,6 +1,7 @@
 // Reading one message: the checks 1 to 10 of a text, its data and its label.
 // The definitions that the contracts cite stand in the crate `reading`.
 #![tactic(auto)]
+
 ghost use Rattle.std.specs.Prelude.{◌≡◌, ◌++◌, ◌+◌, ◌-◌, ◌≤◌, ◌<◌, length, replicate};
 ghost use Rattle.base_64.specs.Lists.{same_bytes};
 ghost use Rattle.base_64.specs.Alphabet.{value_of};
