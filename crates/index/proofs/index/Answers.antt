@@ -1,5 +1,5 @@
 -- The answer and the table are those of the walk. Assumes nothing.
-use Rattle.std.proofs.Common.{◌≡◌, ℕ, ◌≤◌, ◌<◌, List, length, set, replicate, refl, sym, ap, ◌∙◌, arith}
+use Rattle.std.proofs.Common.{◌≡◌, ℕ, ◌≤◌, ◌<◌, List, length, set, replicate, refl, sym, ap, arith}
 use borrow.Author.Tests.{lt-ltb, le-ltb}
 use Rattle.grammar.specs.Grammars.{grammar_of}
 use Rattle.reading.specs.Limits.{text_limit}

@@ -1,5 +1,5 @@
 -- Assumes nothing.
-use Rattle.std.proofs.Common.{sym, ◌∙◌}
+use Rattle.std.proofs.Common.{sym}
 use Rattle.base_64.proofs.Alphabet.{answer_none}
 use Rattle.reading.proofs.Data.{spare_outside}
 use Rattle.reader.proofs.spare_bits.Goals as goal
