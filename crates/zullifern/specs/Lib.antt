@@ -1,3 +1,4 @@
 -- The door of the library. Assumes nothing.
 pub mod Reports
+pub mod Demand2
 pub mod Demand3

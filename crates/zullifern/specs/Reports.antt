@@ -1,7 +1,8 @@
 -- The reports of the exported calls: number, place, size, label offset, label length, family (K6), style of the line ends (K7) and zero.
 -- Assumes nothing.
-use Rattle.std.specs.Prelude.{List, [], ◌∷◌, ℕ, get_or, take, drop}
+use Rattle.std.specs.Prelude.{◌≡◌, List, [], ◌∷◌, ℕ, get_or, take, drop}
 use Rattle.reading.specs.Answers.{number_of, place_of, size_of, label_offset_of, label_length_of, label_family_of, line_style_of}
+use Rattle.reading.specs.Meaning.{Refuses, HandsBackPlace}
 use Rattle.reading.specs.Read.{judge_of}
 use Rattle.reading.specs.declared.Found.{Found}
 use Rattle.reading.specs.declared.Judgement.{Judgement}
@@ -34,6 +35,16 @@ judged_report (judgement.Refused r) = report 0 0 0 0 0 0 0
 
 abbrev pub label_report : List ℕ → ℕ → List ℕ
 label_report text number = judged_report (judge_of text number)
+
+-- What these eight numbers mean: the offset and the length of the part that the label call hands back. The offset is zero exactly
+-- where checks 1 to 9 refuse, so that it tells an empty label, which starts behind its `-----BEGIN `, from a refusal.
+pub record ReportsLabel (text : List ℕ) (number : ℕ) (numbers : List ℕ) : Type 0 where
+  pub offset : ℕ
+  pub length : ℕ
+  pub slots : numbers ≡ report 0 0 0 offset length 0 0
+  pub hands_back : HandsBackPlace text number offset length
+  pub refused : (refusal : Refusal) → Refuses text number refusal → offset ≡ 0
+  pub zero_refused : offset ≡ 0 → (refusal : Refusal) × Refuses text number refusal
 
 -- The numbers of an answer of the index call: it has no label, no family and no style.
 abbrev pub index_report : IndexAnswer → List ℕ

@@ -1,7 +1,7 @@
-// The door of the library: the calls for C and for Rust. Any bytes may come in, any number and any length.
+// The door of the library: the calls as Rattle has them. Any bytes may come in, any number and any length.
 //
 // Each call fills a report of eight numbers: the answer's number, its place, its size, the label's offset, its length and its
-// family, the style of the line ends, and zero. A slice is handed over as a pointer and a length.
+// family, the style of the line ends, and zero. `zullifern_c` hands the same calls to C, under the same names.
 #![tactic(auto)]
 ghost use Rattle.std.specs.Prelude.{◌≡◌, length};
 ghost use Rattle.reading.specs.Answers.{number_of};
@@ -13,7 +13,7 @@ ghost use Rattle.indexing.specs.Index.{index_of, lent_table};
 ghost use Rattle.writing.specs.Answers as wrote;
 ghost use Rattle.writing.specs.Meaning.{Writes};
 ghost use Rattle.writing.specs.Write.{write_of, write_output};
-ghost use Rattle.zullifern.specs.Reports.{read_report, refusal_report, found_report, label_report, judged_report, reported_part, size_report, index_report, write_report};
+ghost use Rattle.zullifern.specs.Reports.{read_report, refusal_report, found_report, label_report, judged_report, reported_part, ReportsLabel, size_report, index_report, write_report};
 
 use indexing::IndexAnswer;
 use reading::{Found, Judgement, ReadAnswer, Refusal};
@@ -119,8 +119,7 @@ fn put_report(values: [u64; 8], report: &mut [u64; 8])
 
 // Reads a text that is to be one message of the grammar of this number, and answers the number. After 0 the output holds the
 // data and then zeros, after anything else zeros only, whatever it held before.
-#[unsafe(no_mangle)]
-pub extern "C" fn zullifern_read(
+pub fn zullifern_read(
     text: &[u8],
     grammar: u32,
     out: &mut [u8],
@@ -134,10 +133,9 @@ pub extern "C" fn zullifern_read(
 }
 
 // The opening label's part of the text: its offset and its length stand in the report's slots 3 and 4, and the call answers
-// 0. Where the checks 1 to 9 refuse, the length is zero; an empty label and a refusal look alike here.
-#[unsafe(no_mangle)]
-pub extern "C" fn zullifern_label(text: &[u8], grammar: u32, report: &mut [u64; 8]) -> u32
-    ensures { (result ≡ 0) × (report.new ≡ label_report text.now grammar) × HandsBack text.now grammar (reported_part text.now report.new) }
+// 0. Where the checks 1 to 9 refuse both are zero; the offset of a label, even of an empty one, is not.
+pub fn zullifern_label(text: &[u8], grammar: u32, report: &mut [u64; 8]) -> u32
+    ensures { (result ≡ 0) × (report.new ≡ label_report text.now grammar) × HandsBack text.now grammar (reported_part text.now report.new) × ReportsLabel text.now grammar report.new }
 {
     put_report(label_report(reader::judge(text, grammar)), report);
     0
@@ -146,8 +144,7 @@ pub extern "C" fn zullifern_label(text: &[u8], grammar: u32, report: &mut [u64; 
 // Indexes a text that is to be a bundle of the grammar of this number, and answers the number. After 0 the table holds the
 // count, six numbers for each message (start, length, label offset, label length, data size, family) and then zeros, after
 // anything else zeros only, whatever it held before.
-#[unsafe(no_mangle)]
-pub extern "C" fn zullifern_index(
+pub fn zullifern_index(
     text: &[u8],
     grammar: u32,
     table: &mut [u32],
@@ -162,8 +159,7 @@ pub extern "C" fn zullifern_index(
 
 // Writes the strict text of a label and data with line ends of the kind that the style's number asks for, and answers the number.
 // After 0 the output holds the text and then zeros, after anything else zeros only, whatever it held before.
-#[unsafe(no_mangle)]
-pub extern "C" fn zullifern_write(
+pub fn zullifern_write(
     label: &[u8],
     content: &[u8],
     style: u32,
