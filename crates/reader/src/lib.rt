@@ -15,7 +15,8 @@ ghost use Rattle.decoder.specs.Decoding.{Decoded};
 ghost use Rattle.grammar.specs.declared.Numbered.TheVariants.{Known};
 ghost use Rattle.machine.proofs.Machine.{start};
 ghost use Rattle.reading.specs.Answers.{refusal_number, refusal_place, number_of};
-ghost use Rattle.reading.specs.Meaning.{Reads, HandsBack};
+ghost use Rattle.reading.specs.Parts.{OwnPart};
+ghost use Rattle.reading.specs.Meaning.{Reads, HandsBack, HandsBackPart};
 ghost use Rattle.reading.specs.Scan.{no_tally, scan_of};
 ghost use Rattle.reading.specs.Ends.{counted_style};
 ghost use Rattle.reading.specs.Read.{Fits, Lies, spanned, layout_of, grammar_refusal, labels_agree, counts_fit, last_at, spare_zero, spare_clear, found_in, judged_parts, judged_scan, judged_by, judge_of, answered, read_of, written, output_of, label_of};
@@ -116,10 +117,11 @@ fn counts_fit(characters: usize, pads: usize) -> bool
     }
 }
 
-// The bytes of a part.
+// The bytes of a part, where they stand.
 fn part_at(text: &[u8], span: Span) -> &[u8]
     requires { span.at.0 + span.length ≤ length text.now }
-    ensures { result.now ≡ spanned text.now span }
+    ensures bytes { result.now ≡ spanned text.now span }
+    ensures place { OwnPart text.entry span.at.0 span.length result }
 {
     let at = span.at;
     let from = at.0;
@@ -355,9 +357,9 @@ pub fn read(text: &[u8], grammar: u32, out: &mut [u8]) -> ReadAnswer
     }
 }
 
-// The opening label, as the caller's own part of the text; an empty part where the checks 1 to 9 refuse.
+// The opening label, as the caller's own part of the text and no copy; an empty part where the checks 1 to 9 refuse.
 pub fn label(text: &[u8], grammar: u32) -> &[u8]
-    ensures { (result.now ≡ label_of text.now grammar) × HandsBack text.now grammar result.now }
+    ensures { (result.now ≡ label_of text.now grammar) × HandsBack text.now grammar result.now × HandsBackPart text.entry grammar result }
 {
     match judge(text, grammar) {
         Judgement::Sound(layout, _, _) => {

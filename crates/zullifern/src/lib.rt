@@ -3,6 +3,7 @@
 // Each call fills a report of eight numbers: the answer's number, its place, its size, the label's offset, its length and its
 // family, the style of the line ends, and zero. `zullifern_c` hands the same calls to C, under the same names.
 #![tactic(auto)]
+
 ghost use Rattle.std.specs.Prelude.{◌≡◌, length};
 ghost use Rattle.reading.specs.Answers.{number_of};
 ghost use Rattle.reading.specs.Meaning.{Reads, HandsBack};
@@ -119,12 +120,7 @@ fn put_report(values: [u64; 8], report: &mut [u64; 8])
 
 // Reads a text that is to be one message of the grammar of this number, and answers the number. After 0 the output holds the
 // data and then zeros, after anything else zeros only, whatever it held before.
-pub fn zullifern_read(
-    text: &[u8],
-    grammar: u32,
-    out: &mut [u8],
-    report: &mut [u64; 8],
-) -> u32
+pub fn zullifern_read(text: &[u8], grammar: u32, out: &mut [u8], report: &mut [u64; 8]) -> u32
     ensures { (result ≡ number_of (read_of text.now grammar (length out.old))) × (report.new ≡ read_report (read_of text.now grammar (length out.old))) × (out.new ≡ output_of text.now grammar (length out.old)) × Reads text.now grammar (length out.old) (read_of text.now grammar (length out.old)) out.new }
 {
     let answer = reader::read(text, grammar, out);
@@ -144,12 +140,7 @@ pub fn zullifern_label(text: &[u8], grammar: u32, report: &mut [u64; 8]) -> u32
 // Indexes a text that is to be a bundle of the grammar of this number, and answers the number. After 0 the table holds the
 // count, six numbers for each message (start, length, label offset, label length, data size, family) and then zeros, after
 // anything else zeros only, whatever it held before.
-pub fn zullifern_index(
-    text: &[u8],
-    grammar: u32,
-    table: &mut [u32],
-    report: &mut [u64; 8],
-) -> u32
+pub fn zullifern_index(text: &[u8], grammar: u32, table: &mut [u32], report: &mut [u64; 8]) -> u32
     ensures { (result ≡ indexed.number_of (index_of text.now grammar (length table.old))) × (report.new ≡ index_report (index_of text.now grammar (length table.old))) × (table.new ≡ lent_table text.now grammar (length table.old)) × Indexes text.now grammar (length table.old) (index_of text.now grammar (length table.old)) table.new }
 {
     let answer = index::index(text, grammar, table);

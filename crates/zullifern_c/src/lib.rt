@@ -1,6 +1,7 @@
 // The calls for C: those of `zullifern`, each with its clauses again. A slice is handed over as a pointer and a length. The archive is
 // delivered as libzullifern.a, with include/zullifern.h.
 #![tactic(auto)]
+
 ghost use Rattle.std.specs.Prelude.{◌≡◌, length};
 ghost use Rattle.reading.specs.Answers.{number_of};
 ghost use Rattle.reading.specs.Meaning.{Reads, HandsBack};

@@ -39,7 +39,7 @@ pub put_data-requires : goal.put_data-requires
 put_data-requires c =
     let text = c.args.text.now in
     let span = c.args.body in
-    let part = c.part_at-part.ensures in
+    let part = c.part_at-part.ensures.bytes in
     let skipped = rw part at c.skip_outside.ensures.2 in
     let size = spanned-length text span c.requires.2 in
     let same = lead text span c.args.pass.from c.args.pass.to c.skip_outside.result c.requires.2 (omega arith) c.requires.4 (omega arith) (omega arith) skipped in
