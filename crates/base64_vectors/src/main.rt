@@ -7,7 +7,7 @@ ghost use Rattle.base_64.specs.Values.{DecodeTable};
 
 use base_64::{RADIX, Value};
 use std::io;
-use std::io::{BufWriter, Write};
+use std::io::Write;
 
 fn put(writer: &mut impl Write, c: u8) -> io::Result<()> {
     let text = [c];
@@ -212,7 +212,5 @@ fn run(writer: &mut impl Write) -> io::Result<()> {
 }
 
 fn main(rt: HostRuntime) -> io::Result<()> {
-    let mut writer = BufWriter::new(rt.alloc(), io::writer(&rt))?;
-    run(&mut writer)?;
-    writer.flush()
+    run(&mut io::writer(&rt))
 }

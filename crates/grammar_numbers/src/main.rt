@@ -3,7 +3,7 @@
 
 use grammar::{Grammar, LineEnding, LineStyle, Numbered, NumberedEnding, TextOffset};
 use std::io;
-use std::io::{BufWriter, Write};
+use std::io::Write;
 
 fn show(writer: &mut impl Write, number: u32) -> io::Result<()> {
     write!(writer, "{number}")?;
@@ -65,7 +65,5 @@ fn run(writer: &mut impl Write) -> io::Result<()> {
 }
 
 fn main(rt: HostRuntime) -> io::Result<()> {
-    let mut writer = BufWriter::new(rt.alloc(), io::writer(&rt))?;
-    run(&mut writer)?;
-    writer.flush()
+    run(&mut io::writer(&rt))
 }

@@ -27,11 +27,11 @@ mod message;
 mod written;
 
 use std::io;
-use std::io::{BufWriter, Read, Write};
+use std::io::{Read, Write};
 use support::{bytes, expand, fields};
 
 // The most bytes of all samples that are read.
-const FORMS_SIZE: u64 = 131072;
+const FORMS_SIZE: usize = 131072;
 
 // Room for the text, the label, the data or the output of a sample.
 const TEXT_SIZE: usize = 65536;
@@ -84,10 +84,22 @@ fn samples(writer: &mut impl Write, forms: &[u8]) -> io::Result<()> {
     Ok(())
 }
 
+// Fills a buffer from its start, and answers how many bytes there were.
+fn filled(reader: &mut impl Read, buffer: &mut [u8]) -> io::Result<usize> {
+    let mut n = 0;
+    while n < buffer.len() {
+        let end = buffer.len();
+        let k = reader.read(&mut buffer[n..end])?;
+        if k == 0 {
+            return Ok(n);
+        }
+        n += k;
+    }
+    Ok(n)
+}
+
 fn main(rt: HostRuntime) -> io::Result<()> {
-    let mut forms = Vec::new(rt.alloc());
-    rt.reader().take(FORMS_SIZE).read_to_end(&mut forms)?;
-    let mut writer = BufWriter::new(rt.alloc(), io::writer(&rt))?;
-    samples(&mut writer, &forms)?;
-    writer.flush()
+    let mut forms = [0u8; FORMS_SIZE];
+    let n = filled(&mut rt.stdin(), &mut forms)?;
+    samples(&mut io::writer(&rt), bytes::part(&forms, 0, n))
 }
