@@ -21,7 +21,9 @@ label-judged text part number j judged e own =
     )
 
 pub part_at-requires : goal.part_at-requires
-part_at-requires c = (sound_fits _ c.args.grammar _ _ _ (sym c.in-Sound.ensures)).0.0
+part_at-requires c =
+    let lies = sound_fits _ c.args.grammar _ _ _ (sym c.in-Sound.ensures) in
+    omega (arith, lies.0)
 
 pub returns-in-Sound : goal.returns-in-Sound
 returns-in-Sound c = label-judged c.args.text _ c.args.grammar _ (sym c.in-Sound.ensures) c.part_at.ensures.bytes c.part_at.ensures.place
