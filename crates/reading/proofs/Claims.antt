@@ -56,7 +56,7 @@ readable_passed text number room at label content i =
     let m = i.message in
     record {
       parsed = record { admitted = record { known = i.known; short = i.short }; joined = m.joined; shape = m.shape };
-      sound = record { short_label = rw m.has_label at i.short_label; consistent = m.consistent };
+      sound = record { short_label = omega (arith, rw m.has_label at i.short_label); consistent = m.consistent };
     }
 
 pub zero_exactly : ZeroExactly

@@ -308,14 +308,6 @@ whole_fits g text e =
     let q : WholeReading g text = whole_reading g text e in
     rw (q.counted, ap length q.joined) (reading_fits q.reading)
 
--- The label's part lies within the text.
-pub label_fits : (text : List ℕ) (number : ℕ) → (label_span_of text number).at.0 + (label_span_of text number).length ≤ length text
-label_fits text number = go (judge_of text number) refl
-  where
-    go : (j : Judgement) → judge_of text number ≡ j → (label_span j).at.0 + (label_span j).length ≤ length text
-    go (judgement.Refused r) e = omega arith
-    go (judgement.Sound l found style) e = (sound_fits text number l found style e).0.0
-
 -- A slice that is this part of the text is what the label call hands back.
 pub hands_back_part : (text part : Bor (List ℕ)) (number : ℕ) (s : Span) → s ≡ label_span_of text.now number
     → OwnPart text s.at.0 s.length part → HandsBackPart text number part

@@ -1,19 +1,15 @@
 -- A part of a text is told by its offset and its length, and its address tells its offset. Assumes nothing.
 use mathlib.Core.Path.{◌≡◌, sym, ap, ◌∙◌}
 use mathlib.Core.List.{List}
-use Prim.Native.Nat.{ℕ, ◌+◌, ◌≤◌}
-use lib.ListN.{length, take, drop, length-drop}
+use Prim.Native.Nat.{ℕ}
+use lib.ListN.{length, drop, length-drop}
 use lib.Seq.{length-take-le}
 use native.Mathlib.Omega.{arith}
 use denote.Ref.{Bor}
 use Rattle.reading.specs.Parts.{OwnPart}
 
--- A part within a list has its length.
-length_part : (l : List ℕ) (at n : ℕ) → at + n ≤ length l → length (take n (drop at l)) ≡ n
-length_part l at n h = length-take-le n (drop at l) (simp length-drop (omega arith))
-
 pub own_length : (text : Bor (List ℕ)) (at n : ℕ) (part : Bor (List ℕ)) → OwnPart text at n part → length part.now ≡ n
-own_length text at n part p = ap length p.bytes ∙ length_part text.now at n p.within
+own_length text at n part p = ap length p.bytes ∙ length-take-le n (drop at text.now) (simp length-drop (omega (arith, p.within)))
 
 -- There is one part only of an offset and a length: one address, and the same bytes.
 pub own_unique : (text : Bor (List ℕ)) (at n : ℕ) (part other : Bor (List ℕ)) → OwnPart text at n part → OwnPart text at n other
