@@ -8,7 +8,7 @@ use lib.Dec.{eqb, ltb, eqb→eq}
 use lib.ListN.{length, get_or}
 use borrow.Author.Tests.{eqb-true, ltb-true, ltb-false}
 use Rattle.base_64.specs.Alphabet.{radix, Sextet, AlphabetChar, alphabet, char_of, place_in, value_of, pad, answer_of}
-use Rattle.base_64.specs.declared.Value.TheVariants.{Of, Outside}
+use Rattle.std.specs.Prelude.{Some, None}
 use Rattle.base_64.proofs.Tests.{below_at}
 
 -- What stands at the place of c is c.
@@ -56,10 +56,10 @@ unfolding value_of alphabet
 value_outside c h = omega (arith, ltb-false (value_of c) radix h, place_within alphabet c)
 
 -- What an answer of the code tells of the byte.
-pub answer_value : (c v : ℕ) → answer_of c ≡ Of v → Sextet v × (value_of c ≡ v)
+pub answer_value : (c v : ℕ) → answer_of c ≡ Some v → Sextet v × (value_of c ≡ v)
 answer_value c v e = go (ltb (value_of c) radix) refl e
   where
-    go : (t : Bool) → ltb (value_of c) radix ≡ t → cond t (Of (value_of c)) Outside ≡ Of v → Sextet v × (value_of c ≡ v)
+    go : (t : Bool) → ltb (value_of c) radix ≡ t → cond t (Some (value_of c)) None ≡ Some v → Sextet v × (value_of c ≡ v)
     go true h k =
         let same : value_of c ≡ v = cc in
         (omega (arith, ltb-true (value_of c) radix h), same)
@@ -67,10 +67,10 @@ answer_value c v e = go (ltb (value_of c) radix) refl e
         let z : ◌≡◌ {A = ℕ} 0 1 = cc in
         absurd (omega arith)
 
-pub answer_none : (c : ℕ) → answer_of c ≡ Outside → value_of c ≡ radix
+pub answer_none : (c : ℕ) → answer_of c ≡ None → value_of c ≡ radix
 answer_none c e = go (ltb (value_of c) radix) refl e
   where
-    go : (t : Bool) → ltb (value_of c) radix ≡ t → cond t (Of (value_of c)) Outside ≡ Outside → value_of c ≡ radix
+    go : (t : Bool) → ltb (value_of c) radix ≡ t → cond t (Some (value_of c)) None ≡ None → value_of c ≡ radix
     go true h k =
         let z : ◌≡◌ {A = ℕ} 0 1 = cc in
         absurd (omega arith)

@@ -1,14 +1,13 @@
 -- Lists whose elements are all of one kind, the entries of a table, and lists of bytes compared. Assumes nothing.
 use mathlib.Core.Path.{◌≡◌, refl, sym, ap, ◌∙◌}
 use mathlib.Core.Logic.{◌≢◌}
-use mathlib.Core.Bool.{Bool, true, false, cond, true≢false, false≢true}
+use mathlib.Core.Bool.{Bool, true, false, cond, ◌&&◌, true≢false, false≢true}
 use mathlib.Core.List.{List, [], ◌∷◌, ◌++◌, map}
 use Prim.Native.Nat.{ℕ, zero, suc, ◌+◌, ◌<◌}
 use native.Mathlib.Omega.{arith}
-use native.Mathlib.Numerals.{add-one}
 use lib.Dec.{T, eqb}
-use lib.ListN.{length, drop, get_or}
-use lib.Seq.{drop-cons}
+use lib.ListN.{length, get_or}
+use lib.Pointwise.{pointwise}
 use borrow.Author.Tests.{eqb-true, eq-eqb}
 use Rattle.base_64.specs.Lists.{All, entries, same_bytes}
 use Rattle.base_64.proofs.Tests.{both, both_left, both_right}
@@ -88,16 +87,14 @@ same_true (x ∷ a) (y ∷ b) e = go (eqb x y) refl (same_true a b) e
 pub same_false : (a b : List ℕ) → same_bytes a b ≡ false → a ≢ b
 same_false a b e h = true≢false (sym (same_refl a) ∙ ap (same_bytes a) h ∙ e)
 
--- Lists of two lengths differ.
-pub same_lengths : (a b : List ℕ) → length a ≢ length b → same_bytes a b ≡ false
-same_lengths a b h = go (same_bytes a b) refl
-  where
-    go : (t : Bool) → same_bytes a b ≡ t → t ≡ false
-    go true e = absurd (h (ap length (same_true a b e)))
-    go false e = refl
-
--- The bytes at one place, and then those behind it.
-pub same_next : (a b : List ℕ) (i : ℕ) → i < length a → i < length b
-    → same_bytes (drop i a) (drop i b) ≡ cond (eqb (get_or a i 0) (get_or b i 0)) (same_bytes (drop (i + 1) a) (drop (i + 1) b)) false
+-- The comparison of slices is the one of the definition.
+pub same_slices : (a b : List ℕ) → pointwise eqb a b ≡ same_bytes a b
 unfolding same_bytes
-same_next a b i ha hb = rw (add-one, drop-cons a i 0, drop-cons b i 0)
+same_slices [] [] = refl
+same_slices [] (y ∷ b) = refl
+same_slices (x ∷ a) [] = refl
+same_slices (x ∷ a) (y ∷ b) = go (eqb x y) (same_slices a b)
+  where
+    go : (t : Bool) → pointwise eqb a b ≡ same_bytes a b → t && pointwise eqb a b ≡ cond t (same_bytes a b) false
+    go true later = later
+    go false later = refl

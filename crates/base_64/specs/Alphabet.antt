@@ -1,7 +1,5 @@
 -- RFC 4648, section 4, table 1: the alphabet of base 64. Assumes nothing.
-use Rattle.std.specs.Prelude.{cond, List, [], ◌∷◌, ℕ, suc, ◌<◌, eqb, ltb, get_or}
-use Rattle.base_64.specs.declared.Value.{Value}
-use Rattle.base_64.specs.declared.Value.TheVariants.{Of, Outside}
+use Rattle.std.specs.Prelude.{Option, Some, None, cond, List, [], ◌∷◌, ℕ, suc, ◌<◌, eqb, ltb, get_or}
 
 -- How many values there are.
 abbrev pub radix : ℕ
@@ -46,6 +44,6 @@ value_of c = place_in alphabet c
 abbrev pub AlphabetChar : ℕ → Type 0
 AlphabetChar c = Sextet (value_of c)
 
--- A byte's value as the code answers it.
-abbrev pub answer_of : ℕ → Value
-answer_of c = cond (ltb (value_of c) radix) (Of (value_of c)) Outside
+-- A byte's value as the code answers it: none outside the alphabet.
+abbrev pub answer_of : ℕ → Option ℕ
+answer_of c = cond (ltb (value_of c) radix) (Some (value_of c)) None

@@ -1,2 +1,3 @@
--- What is on its way to zeros, and the functions meet their contracts. Assumes nothing.
-pub mod Zeros
+-- Calls that are lent an output, the bytes of numbers, and that the functions meet their contracts. Assumes nothing.
+pub mod Calls
+pub mod Numbers

@@ -2,8 +2,8 @@
 use Rattle.std.proofs.Common.{refl}
 use Rattle.base_64.specs.Alphabet.{alphabet, place_in, value_of}
 use Rattle.base_64.proofs.Values.{tested_table}
-use Rattle.base_64.proofs.decode_table.Goals as goal
+use Rattle.base_64.proofs.tables.DecodeTable.new.Goals as goal
 
-pub returns : goal.returns
+pub invariant_of-result : goal.invariant_of-result
 unfolding value_of place_in alphabet
-returns c = tested_table _ refl tt
+invariant_of-result c = record { rule = tested_table _ refl tt }
