@@ -1,73 +1,99 @@
 // The families of labels: the table of the labels that have one, and the search in it.
 #![tactic(auto)]
 
-ghost use Rattle.std.specs.Prelude.{◌≡◌};
-ghost use Rattle.base_64.specs.Lists.{same_bytes};
+ghost use Rattle.std.specs.Prelude.{◌≡◌, ◌==◌};
+ghost use Rattle.std.specs.List.{position};
 ghost use Rattle.grammar.specs.Families.{family_of};
 ghost use Rattle.families.specs.Arrays.{unpadded};
 
 use grammar::Family;
 
-// A label with zeros behind it, so that all are of one length, and the number of its family. No byte of a label is zero.
-#[derive(Clone, Copy)]
-struct KnownLabel([u8; 24], u32);
+// A label with zeros behind it, so that all are of one length, and its family. No byte of a label is zero.
+#[derive(Clone, Copy, Debug, PartialEq, Eq)]
+struct KnownLabel {
+    padded: [u8; 24],
+    family: Family,
+}
+
+impl KnownLabel {
+    // Where its zeros begin, if it has any.
+    fn end(&self) -> Option<usize>
+        ensures { result ≡ position (λ b. b == 0) self.now.padded }
+    {
+        self.padded.iter().position(|b| *b == 0)
+    }
+
+    // The label, without the zeros.
+    fn label(&self) -> &[u8]
+        ensures { result.now ≡ unpadded self.now.padded }
+    {
+        match self.end() {
+            Some(end) => &self.padded[..end],
+            None => &self.padded,
+        }
+    }
+}
 
 // The labels of `known_labels`, one by one.
 const KNOWN_LABELS: [KnownLabel; 12] = [
-    KnownLabel(*b"CERTIFICATE\0\0\0\0\0\0\0\0\0\0\0\0\0", 1),
-    KnownLabel(*b"X509 CRL\0\0\0\0\0\0\0\0\0\0\0\0\0\0\0\0", 2),
-    KnownLabel(*b"CERTIFICATE REQUEST\0\0\0\0\0", 3),
-    KnownLabel(*b"PKCS7\0\0\0\0\0\0\0\0\0\0\0\0\0\0\0\0\0\0\0", 4),
-    KnownLabel(*b"CMS\0\0\0\0\0\0\0\0\0\0\0\0\0\0\0\0\0\0\0\0\0", 5),
-    KnownLabel(*b"PRIVATE KEY\0\0\0\0\0\0\0\0\0\0\0\0\0", 6),
-    KnownLabel(*b"ENCRYPTED PRIVATE KEY\0\0\0", 7),
-    KnownLabel(*b"ATTRIBUTE CERTIFICATE\0\0\0", 8),
-    KnownLabel(*b"PUBLIC KEY\0\0\0\0\0\0\0\0\0\0\0\0\0\0", 9),
-    KnownLabel(*b"X509 CERTIFICATE\0\0\0\0\0\0\0\0", 1),
-    KnownLabel(*b"X.509 CERTIFICATE\0\0\0\0\0\0\0", 1),
-    KnownLabel(*b"NEW CERTIFICATE REQUEST\0", 3),
+    KnownLabel {
+        padded: *b"CERTIFICATE\0\0\0\0\0\0\0\0\0\0\0\0\0",
+        family: Family::Certificate,
+    },
+    KnownLabel {
+        padded: *b"X509 CRL\0\0\0\0\0\0\0\0\0\0\0\0\0\0\0\0",
+        family: Family::X509Crl,
+    },
+    KnownLabel {
+        padded: *b"CERTIFICATE REQUEST\0\0\0\0\0",
+        family: Family::CertificateRequest,
+    },
+    KnownLabel {
+        padded: *b"PKCS7\0\0\0\0\0\0\0\0\0\0\0\0\0\0\0\0\0\0\0",
+        family: Family::Pkcs7,
+    },
+    KnownLabel {
+        padded: *b"CMS\0\0\0\0\0\0\0\0\0\0\0\0\0\0\0\0\0\0\0\0\0",
+        family: Family::Cms,
+    },
+    KnownLabel {
+        padded: *b"PRIVATE KEY\0\0\0\0\0\0\0\0\0\0\0\0\0",
+        family: Family::PrivateKey,
+    },
+    KnownLabel {
+        padded: *b"ENCRYPTED PRIVATE KEY\0\0\0",
+        family: Family::EncryptedPrivateKey,
+    },
+    KnownLabel {
+        padded: *b"ATTRIBUTE CERTIFICATE\0\0\0",
+        family: Family::AttributeCertificate,
+    },
+    KnownLabel {
+        padded: *b"PUBLIC KEY\0\0\0\0\0\0\0\0\0\0\0\0\0\0",
+        family: Family::PublicKey,
+    },
+    KnownLabel {
+        padded: *b"X509 CERTIFICATE\0\0\0\0\0\0\0\0",
+        family: Family::Certificate,
+    },
+    KnownLabel {
+        padded: *b"X.509 CERTIFICATE\0\0\0\0\0\0\0",
+        family: Family::Certificate,
+    },
+    KnownLabel {
+        padded: *b"NEW CERTIFICATE REQUEST\0",
+        family: Family::CertificateRequest,
+    },
 ];
 
-const NO_FAMILY: u32 = 0;
-
-// Whether a label is the one that stands in an array before its first zero.
-#[tactic(auto, using(crate::proofs::Arrays::unpadded_zero))]
-fn is_label(label: &[u8], array: &[u8]) -> bool
-    ensures { result ≡ same_bytes (unpadded array.now) label.now }
+// The family of a label; none where it is in none.
+pub fn family_of(label: &[u8]) -> Option<Family>
+    ensures { result ≡ family_of label.now }
 {
-    if array.len() < label.len() {
-        return false;
-    }
-    let mut i = 0;
-    while i < label.len() {
-        let b = label[i];
-        if b == 0 {
-            return false;
+    for known in KNOWN_LABELS {
+        if known.label() == label {
+            return Some(known.family);
         }
-        if array[i] != b {
-            return false;
-        }
-        i += 1;
     }
-    if i < array.len() {
-        return array[i] == 0;
-    }
-    true
-}
-
-// The family of a label.
-pub fn family_of(label: &[u8]) -> Family
-    ensures { result.0 ≡ family_of label.now }
-{
-    let known = KNOWN_LABELS;
-    let mut i = 0;
-    while i < known.len() {
-        let row = known[i];
-        let array = row.0;
-        if is_label(label, &array) {
-            return Family(row.1);
-        }
-        i += 1;
-    }
-    Family(NO_FAMILY)
+    None
 }

@@ -12,9 +12,9 @@ use Rattle.grammar.specs.Marks.{CR, LF, NoLF, LineEnd, crlf, cr, lf}
 use Rattle.grammar.specs.LineEnds.{line_end, LineEnds, none, other, ended, OneListOfLineEnds, line_ending_number, line_ending_of}
 use Rattle.grammar.specs.declared.LineEnding.{LineEnding}
 use Rattle.grammar.specs.declared.LineEnding.TheVariants.{Lf, CrLf, Cr}
-use Rattle.grammar.specs.declared.NumberedEnding.TheVariants.{Known}
+use Rattle.std.specs.Prelude.{Some}
 
-pub number_style : (s : LineEnding) → line_ending_of (line_ending_number s) ≡ Known s
+pub number_style : (s : LineEnding) → line_ending_of (line_ending_number s) ≡ Some s
 number_style Lf = refl
 number_style CrLf = refl
 number_style Cr = refl
@@ -62,8 +62,8 @@ ends_behind_lem (ended {rest} Cr e h) = cr_alone rest (end_alone e refl) ∙ ap 
 
 -- ---- some list
 
-abbrev Some : List ℕ → Type 0
-Some l = (ss : List LineEnding) × LineEnds l ss
+abbrev HasList : List ℕ → Type 0
+HasList l = (ss : List LineEnding) × LineEnds l ss
 
 starts_other : (c : ℕ) (l : List ℕ) → eqb c LF ≡ false → NoLF (c ∷ l)
 starts_other c l e r q = eqb-false c LF e (head-eq_of_cons-eq q)
@@ -73,8 +73,8 @@ nothing_follows r q = cons≢nil (sym q)
 
 -- With a CR before the text, too, which the text's own first byte may make a CRLF.
 record Either (l : List ℕ) : Type 0 where
-  pub alone : Some l
-  pub behind : Some (CR ∷ l)
+  pub alone : HasList l
+  pub behind : HasList (CR ∷ l)
 
 either : (l : List ℕ) → Either l
 either [] = record { alone = ([], none); behind = (Cr ∷ [], ended Cr (cr nothing_follows) none) }

@@ -3,7 +3,7 @@
 use Rattle.std.specs.Prelude.{◌≡◌, List, [], ◌∷◌, ◌++◌, map, ℕ, ◌+◌, length}
 use Rattle.base_64.specs.Lists.{All}
 use Rattle.grammar.specs.Marks.{begin}
-use Rattle.grammar.specs.Families.{family_of}
+use Rattle.grammar.specs.Families.{family_of, family_told}
 use Rattle.grammar.specs.Message.{Reading, text_of, Shape, Consistent, data_of}
 use Rattle.grammar.specs.declared.Grammar.{Grammar}
 
@@ -39,7 +39,7 @@ entry_of start r =
     ∷ (start + (length r.before + length begin))
     ∷ length r.opening_label
     ∷ length (data_of r)
-    ∷ family_of r.opening_label
+    ∷ family_told (family_of r.opening_label)
     ∷ []
 
 -- The numbers of messages end to end, of which the first starts at an offset of the text.

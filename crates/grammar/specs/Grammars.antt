@@ -8,8 +8,8 @@ use Rattle.base_64.specs.Alphabet.{AlphabetChar, pad}
 use Rattle.grammar.specs.Marks.{Blank, White, LineEnd}
 use Rattle.grammar.specs.declared.Grammar.{Grammar}
 use Rattle.grammar.specs.declared.Grammar.TheVariants.{Lax, Standard, Strict}
-use Rattle.grammar.specs.declared.Numbered.{Numbered}
-use Rattle.grammar.specs.declared.Numbered.TheVariants.{Known, Unknown}
+use Rattle.std.specs.Prelude.{Option}
+use Rattle.std.specs.Prelude.{Some, None}
 
 -- They are called by number, and an unknown number is an ordinary input.
 abbrev pub lax_number : ℕ
@@ -21,12 +21,12 @@ standard_number = 2
 abbrev pub strict_number : ℕ
 strict_number = 3
 
-abbrev pub grammar_of : ℕ → Numbered
+abbrev pub grammar_of : ℕ → Option Grammar
 grammar_of n =
-    cond (eqb n lax_number) (Known Lax)
-    (cond (eqb n standard_number) (Known Standard)
-    (cond (eqb n strict_number) (Known Strict)
-    Unknown))
+    cond (eqb n lax_number) (Some Lax)
+    (cond (eqb n standard_number) (Some Standard)
+    (cond (eqb n strict_number) (Some Strict)
+    None))
 
 -- ---- 1, lax
 -- Any white; opening; any mixture of white and alphabet characters; then at most two pads, each followed by any white;

@@ -7,8 +7,8 @@ use Rattle.grammar.specs.declared.LineEnding.{LineEnding}
 use Rattle.grammar.specs.declared.LineEnding.TheVariants.{Lf, CrLf, Cr}
 use Rattle.grammar.specs.declared.LineStyle.{LineStyle}
 use Rattle.grammar.specs.declared.LineStyle.TheVariants.{NoLineEnd, Only, Mixed}
-use Rattle.grammar.specs.declared.NumberedEnding.{NumberedEnding}
-use Rattle.grammar.specs.declared.NumberedEnding.TheVariants.{Known, Unknown}
+use Rattle.std.specs.Prelude.{Option}
+use Rattle.std.specs.Prelude.{Some, None}
 
 -- The bytes of a line end of each kind.
 abbrev pub line_end : LineEnding → List ℕ
@@ -36,12 +36,12 @@ line_ending_number Lf = 1
 line_ending_number CrLf = 2
 line_ending_number Cr = 3
 
-abbrev pub line_ending_of : ℕ → NumberedEnding
+abbrev pub line_ending_of : ℕ → Option LineEnding
 line_ending_of n =
-    cond (eqb n (line_ending_number Lf)) (Known Lf)
-    (cond (eqb n (line_ending_number CrLf)) (Known CrLf)
-    (cond (eqb n (line_ending_number Cr)) (Known Cr)
-    Unknown))
+    cond (eqb n (line_ending_number Lf)) (Some Lf)
+    (cond (eqb n (line_ending_number CrLf)) (Some CrLf)
+    (cond (eqb n (line_ending_number Cr)) (Some Cr)
+    None))
 
 -- 0 none, 1 LF, 2 CRLF, 3 CR, 4 mixed.
 abbrev pub style_number : LineStyle → ℕ

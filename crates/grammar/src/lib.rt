@@ -4,8 +4,11 @@
 
 ghost use Rattle.std.specs.Prelude.{◌≡◌, ◌+◌, ◌^◌, ◌<◌, length};
 ghost use Rattle.grammar.specs.Marks.{begin, end};
+ghost use Rattle.grammar.specs.Families.{family_number, family_told};
 ghost use Rattle.grammar.specs.Grammars.{grammar_of};
-ghost use Rattle.grammar.specs.LineEnds.{line_ending_of, style_number};
+ghost use Rattle.grammar.specs.LineEnds.{line_ending_number, line_ending_of, style_number};
+
+use std::fmt;
 
 // The marks, by their bytes; the alphabet and the pad are those of base 64.
 pub const HT: u8 = b'\t';
@@ -42,18 +45,11 @@ pub const LINE_GROUPS: usize = LINE_CHARS / base_64::GROUP_CHARS;
 pub const LINE_BYTES: usize = LINE_GROUPS * base_64::GROUP_BYTES;
 
 // A grammar.
-#[derive(Clone, Copy)]
+#[derive(Clone, Copy, Debug, PartialEq, Eq, Hash)]
 pub enum Grammar {
     Lax,
     Standard,
     Strict,
-}
-
-// The grammar that a caller's number asks for.
-#[derive(Clone, Copy)]
-pub enum Numbered {
-    Known(Grammar),
-    Unknown,
 }
 
 impl Grammar {
@@ -64,25 +60,77 @@ impl Grammar {
 
     pub const STRICT: u32 = 3;
 
-    // Any number may come in.
-    pub fn from_number(number: u32) -> Numbered
+    // The grammar that a caller's number asks for. Any number may come in, and an unknown one asks for none.
+    pub fn from_number(number: u32) -> Option<Grammar>
         ensures { result ≡ grammar_of number }
     {
         match number {
-            Self::LAX => Numbered::Known(Grammar::Lax),
-            Self::STANDARD => Numbered::Known(Grammar::Standard),
-            Self::STRICT => Numbered::Known(Grammar::Strict),
-            _ => Numbered::Unknown,
+            Self::LAX => Some(Grammar::Lax),
+            Self::STANDARD => Some(Grammar::Standard),
+            Self::STRICT => Some(Grammar::Strict),
+            _ => None,
         }
     }
 }
 
-// The family of a label, by its number: 0 for a label that is in none.
-#[derive(Clone, Copy)]
-pub struct Family(pub u32);
+impl fmt::Display for Grammar {
+    fn fmt<W: fmt::Write>(&self, f: &mut fmt::Formatter<W>) -> fmt::Result {
+        f.write_str(match self {
+            Grammar::Lax => "lax",
+            Grammar::Standard => "standard",
+            Grammar::Strict => "strict",
+        })
+    }
+}
+
+// The family of a label. (RFC 7468, figure 4, in its order.)
+#[derive(Clone, Copy, Debug, PartialEq, Eq, Hash)]
+pub enum Family {
+    Certificate,
+    X509Crl,
+    CertificateRequest,
+    Pkcs7,
+    Cms,
+    PrivateKey,
+    EncryptedPrivateKey,
+    AttributeCertificate,
+    PublicKey,
+}
+
+impl Family {
+    // What is told of a label that is in none.
+    pub const NONE: u32 = 0;
+
+    // Its number.
+    pub fn number(self) -> u32
+        ensures { result ≡ family_number self }
+    {
+        match self {
+            Family::Certificate => 1,
+            Family::X509Crl => 2,
+            Family::CertificateRequest => 3,
+            Family::Pkcs7 => 4,
+            Family::Cms => 5,
+            Family::PrivateKey => 6,
+            Family::EncryptedPrivateKey => 7,
+            Family::AttributeCertificate => 8,
+            Family::PublicKey => 9,
+        }
+    }
+
+    // The number of a label's family, if it is in one.
+    pub fn told(family: Option<Family>) -> u32
+        ensures { result ≡ family_told family }
+    {
+        match family {
+            Some(family) => family.number(),
+            None => Self::NONE,
+        }
+    }
+}
 
 // A kind of line end: LF, CRLF, or CR with no LF behind it.
-#[derive(Clone, Copy)]
+#[derive(Clone, Copy, Debug, PartialEq, Eq, Hash)]
 pub enum LineEnding {
     Lf,
     CrLf,
@@ -90,7 +138,7 @@ pub enum LineEnding {
 }
 
 // The line ends of a text together: none, all of one kind, or of several.
-#[derive(Clone, Copy)]
+#[derive(Clone, Copy, Debug, PartialEq, Eq, Hash)]
 pub enum LineStyle {
     NoLineEnd,
     Only(LineEnding),
@@ -109,21 +157,10 @@ impl LineStyle {
     {
         match self {
             LineStyle::NoLineEnd => Self::NO_LINE_END,
-            LineStyle::Only(ending) => match ending {
-                LineEnding::Lf => LineEnding::LF,
-                LineEnding::CrLf => LineEnding::CRLF,
-                LineEnding::Cr => LineEnding::CR,
-            },
+            LineStyle::Only(ending) => ending.number(),
             LineStyle::Mixed => Self::MIXED,
         }
     }
-}
-
-// The kind of line end that a caller's number asks for.
-#[derive(Clone, Copy)]
-pub enum NumberedEnding {
-    Known(LineEnding),
-    Unknown,
 }
 
 impl LineEnding {
@@ -134,27 +171,43 @@ impl LineEnding {
 
     pub const CR: u32 = 3;
 
-    // Any number may come in.
-    pub fn from_number(number: u32) -> NumberedEnding
+    // Its number.
+    pub fn number(self) -> u32
+        ensures { result ≡ line_ending_number self }
+    {
+        match self {
+            LineEnding::Lf => Self::LF,
+            LineEnding::CrLf => Self::CRLF,
+            LineEnding::Cr => Self::CR,
+        }
+    }
+
+    // The kind that a caller's number asks for. Any number may come in, and an unknown one asks for none.
+    pub fn from_number(number: u32) -> Option<LineEnding>
         ensures { result ≡ line_ending_of number }
     {
         match number {
-            Self::LF => NumberedEnding::Known(LineEnding::Lf),
-            Self::CRLF => NumberedEnding::Known(LineEnding::CrLf),
-            Self::CR => NumberedEnding::Known(LineEnding::Cr),
-            _ => NumberedEnding::Unknown,
+            Self::LF => Some(LineEnding::Lf),
+            Self::CRLF => Some(LineEnding::CrLf),
+            Self::CR => Some(LineEnding::Cr),
+            _ => None,
         }
     }
 }
 
+impl fmt::Display for LineEnding {
+    fn fmt<W: fmt::Write>(&self, f: &mut fmt::Formatter<W>) -> fmt::Result {
+        f.write_str(match self {
+            LineEnding::Lf => "LF",
+            LineEnding::CrLf => "CRLF",
+            LineEnding::Cr => "CR",
+        })
+    }
+}
+
 // An offset in a text: the number of bytes before it. It is no count of decoded bytes (`base_64::ByteCount`).
-#[derive(Clone, Copy)]
+#[derive(Clone, Copy, Debug, PartialEq, Eq, PartialOrd, Ord, Hash)]
 pub struct TextOffset(pub usize);
-
-// How many bytes BEGIN and END have.
-const BEGIN_LENGTH: usize = 11;
-
-const END_LENGTH: usize = 9;
 
 impl TextOffset {
     // Where the label starts of the opening boundary that starts here.
@@ -162,7 +215,7 @@ impl TextOffset {
         requires { self.0 + length begin < 2 ^ 64 }
         ensures { result.0 ≡ self.0 + length begin }
     {
-        TextOffset(self.0 + BEGIN_LENGTH)
+        self.behind(&BEGIN)
     }
 
     // Where the label starts of the closing boundary that starts here.
@@ -170,6 +223,20 @@ impl TextOffset {
         requires { self.0 + length end < 2 ^ 64 }
         ensures { result.0 ≡ self.0 + length end }
     {
-        TextOffset(self.0 + END_LENGTH)
+        self.behind(&END)
+    }
+
+    // Where a word ends that starts here.
+    fn behind(self, word: &[u8]) -> TextOffset
+        requires { self.0 + length word.now < 2 ^ 64 }
+        ensures { result.0 ≡ self.0 + length word.now }
+    {
+        TextOffset(self.0 + word.len())
+    }
+}
+
+impl fmt::Display for TextOffset {
+    fn fmt<W: fmt::Write>(&self, f: &mut fmt::Formatter<W>) -> fmt::Result {
+        write!(f, "{}", self.0)
     }
 }

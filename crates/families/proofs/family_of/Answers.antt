@@ -1,18 +1,15 @@
--- Assumes nothing.
-use Rattle.std.proofs.Common.{refl, sym, ◌∙◌, arith}
-use Rattle.families.proofs.Table.{row_found, row_passed, none_left}
+-- A row that tells the label tells its family, and another is passed over. Assumes nothing.
+use Rattle.std.proofs.Common.{sym, ◌∙◌}
+use Rattle.families.proofs.Table.{row_found, row_passed, compared, none_left}
 use Rattle.families.proofs.family_of.Goals as goal
 
-pub returns-then-is_label : goal.returns-then-is_label
-returns-then-is_label c =
-    row_found c.loop-i.i c.loop-i-test.true _ c.args.label.now (sym c.is_label.ensures ∙ c.if-is_label.true) ∙ c.loop-i.invariant.2
+pub returns-then-eq : goal.returns-then-eq
+returns-then-eq c =
+    row_found c.loop-known.known-index c.loop-known-test.true _ c.args.label.now (compared _ c.label.ensures c.if-eq.ensures) ∙ c.loop-known.invariant
 
-pub loop-i-preserved : goal.loop-i-preserved
-loop-i-preserved c = (
-  refl,
-  omega arith,
-  row_passed c.loop-i.i c.loop-i-test.true _ c.args.label.now (sym c.is_label.ensures ∙ c.if-is_label.false) ∙ c.loop-i.invariant.2,
-)
+pub loop-known-preserved : goal.loop-known-preserved
+loop-known-preserved c =
+    row_passed c.loop-known.known-index c.loop-known-test.true _ c.args.label.now (compared _ c.label.ensures c.if-eq.ensures) ∙ c.loop-known.invariant
 
 pub returns : goal.returns
-returns c = sym (none_left c.loop-i.i c.loop-i-test.false c.args.label.now) ∙ c.loop-i.invariant.2
+returns c = sym (none_left c.loop-known.known-index c.loop-known-test.false c.args.label.now) ∙ c.loop-known.invariant
