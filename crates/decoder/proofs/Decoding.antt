@@ -5,6 +5,7 @@ use mathlib.Core.List.{List, [], ◌∷◌, ◌++◌, append_assoc, append-nil}
 use Prim.Native.Nat.{ℕ, suc, ◌+◌, ◌-◌, ◌*◌, ◌/◌, ◌%◌, ◌≤◌, ◌<◌}
 use native.Mathlib.Omega.{arith}
 use native.Mathlib.Numerals.{add-one}
+use Rattle.std.specs.Prelude.{Some, None}
 use lib.ListN.{length, drop, take, get_or, set, length-drop, length-set, length-append, drop_of_length-le, take-append-drop}
 use lib.Seq.{drop-cons, drop-drop, take-add, take_at, drop_at, take-take, take-set-le, take-suc, take-suc-set, take-length}
 use Rattle.base_64.specs.Groups.{decode}
@@ -13,14 +14,14 @@ use Rattle.grammar.specs.Message.{characters}
 use Rattle.grammar.proofs.Counts.{characters_append}
 use Rattle.decoder.specs.declared.Open.{Open}
 use Rattle.decoder.specs.declared.Open.TheVariants.{Start}
-use Rattle.decoder.specs.declared.Fed.TheVariants.{Held, Byte}
-use Rattle.runs.specs.Runs.{Characters, Outside, Blanks, LineEndAt, no_lines, OfLength, FullLength, between}
+use Rattle.decoder.specs.declared.Fed.{Fed}
+use Rattle.runs.specs.Runs.{Characters, Outside, Blanks, LfOrCrlf, no_lines, OfLength, FullLength, between}
 use Rattle.runs.specs.declared.Lines.{Lines}
 use Rattle.runs.proofs.Runs.{run_none, run_more, run_then, between_join, line_end_inside}
 use Rattle.runs.proofs.Alphabet.{run_characters, characters_run, run_length, outside_characters, blanks_outside, line_end_outside}
 use Rattle.runs.proofs.Lined.{lines_inside, line_more, full_more, full_lines, full_lengths, full_told}
 use Rattle.decoder.specs.Feeding.{HoldsValue, fed_byte, ahead_body}
-use Rattle.decoder.proofs.Feeding.{ahead_next, ahead_none, rest_more, rest_next}
+use Rattle.decoder.proofs.Feeding.{behind, ahead_next, ahead_none, rest_more, rest_next}
 use Rattle.decoder.specs.Tables.{mark, group_at}
 use Rattle.decoder.specs.Decoding.{Put, Decoding, Further, Decoded, DecodedLines}
 use Rattle.decoder.proofs.Tables.{Inside, number_group}
@@ -173,29 +174,31 @@ module _ {body out : List ℕ} {g : Open} {n i : ℕ} (w : Decoding body out g n
   decoding_others : i < length body → drop n (decode (characters body)) ≡ ahead_body g (get_or body i 0 ∷ drop (i + 1) body)
   decoding_others h = w.others ∙ ap (ahead_body g) (rw (add-one, drop-cons body i 0))
 
-  pub decoding_held : (next : Open) → i < length body → fed_byte g (get_or body i 0) ≡ Held next → Decoding body out next n (i + 1)
-  decoding_held next h e =
-      let step = ahead_next g (Held next) (get_or body i 0) (drop (i + 1) body) w.holds e in
-      record { fits = w.fits; holds = step.0; some = w.some; others = decoding_others h ∙ step.1; written = w.written }
-
-  module _ (b : ℕ) (next : Open) (h : i < length body) (e : fed_byte g (get_or body i 0) ≡ Byte b next) where
-    decoding_byte : HoldsValue next × (drop n (decode (characters body)) ≡ b ∷ ahead_body next (drop (i + 1) body))
-    decoding_byte =
-        let step = ahead_next g (Byte b next) (get_or body i 0) (drop (i + 1) body) w.holds e in
+  module _ {f : Fed} (h : i < length body) (e : fed_byte g (get_or body i 0) ≡ f) where
+    decoding_step : HoldsValue f.group × (drop n (decode (characters body)) ≡ behind f.byte (ahead_body f.group (drop (i + 1) body)))
+    decoding_step =
+        let step = ahead_next g f (get_or body i 0) (drop (i + 1) body) w.holds e in
         (step.0, decoding_others h ∙ step.1)
 
+    pub decoding_held : f.byte ≡ None → Decoding body out f.group n (i + 1)
+    decoding_held none = record { fits = w.fits; holds = decoding_step.0; some = w.some; others = rw none at decoding_step.1; written = w.written }
+
+  module _ {f : Fed} {b : ℕ} (h : i < length body) (e : fed_byte g (get_or body i 0) ≡ f) (some : f.byte ≡ Some b) where
+    decoding_byte : drop n (decode (characters body)) ≡ b ∷ ahead_body f.group (drop (i + 1) body)
+    decoding_byte = rw some at (decoding_step h e).1
+
     decoding_more : n < length (decode (characters body))
-    decoding_more = rest_more (decode (characters body)) n b (ahead_body next (drop (i + 1) body)) decoding_byte.1
+    decoding_more = rest_more (decode (characters body)) n b (ahead_body f.group (drop (i + 1) body)) decoding_byte
 
     pub decoding_below : n < length out
     decoding_below = omega (arith, w.fits, decoding_more)
 
-    pub decoding_given : Decoding body (set out n b) next (n + 1) (i + 1)
+    pub decoding_given : Decoding body (set out n b) f.group (n + 1) (i + 1)
     decoding_given =
-        let next_byte = rest_next (decode (characters body)) n b (ahead_body next (drop (i + 1) body)) decoding_byte.1 in
+        let next_byte = rest_next (decode (characters body)) n b (ahead_body f.group (drop (i + 1) body)) decoding_byte in
         record {
           fits = rw length-set w.fits;
-          holds = decoding_byte.0;
+          holds = (decoding_step h e).0;
           some = omega (arith, decoding_more);
           others = next_byte.1;
           written = rw (add-one, take-suc-set out n b decoding_below, take-suc (decode (characters body)) n 0 decoding_more, next_byte.0, w.written);
@@ -275,28 +278,28 @@ lines_kept d p = record { size = p.size ∙ d.size; room = omega (arith, p.size,
 
 module _ {text : List ℕ} {old out out' : List ℕ} {from end groups last lf crlf : ℕ} (start : from ≤ length text) where
   -- A full line more.
-  pub full_line_more : DecodedLines text true old out from end groups last lf crlf → {s : ℕ} → Put text out out' (3 * groups) end 16 s → s < mark → (w : ℕ) → LineEndAt text (end + 64) w → 0 < w
+  pub full_line_more : DecodedLines text true old out from end groups last lf crlf → {s : ℕ} → Put text out out' (3 * groups) end 16 s → s < mark → (w : ℕ) → LfOrCrlf text (end + 64) w
       → DecodedLines text true old out' from (end + 64 + w) (groups + 16) (end + 64) (lf + (2 - w)) (crlf + (w - 1))
-  full_line_more d p small w ended some =
+  full_line_more d p small w ended =
       let bytes : 3 * groups + 3 * 16 ≡ 3 * (groups + 16) = omega arith in
       record {
         size = p.size ∙ d.size;
         room = omega (arith, p.room, p.size);
-        lines = full_more d.lines w (p.inside small) p.stands ended some;
-        written = rw bytes at (decoded_line (lines_inside start d.lines).forward d.written p small _ (omega arith) (line_end_inside ended p.stands) (line_end_outside ended));
+        lines = full_more d.lines w (p.inside small) p.stands ended;
+        written = rw bytes at (decoded_line (lines_inside start d.lines).forward d.written p small _ (omega arith) (line_end_inside ended) (line_end_outside ended));
       }
 
   -- A line of any length more.
   pub any_line_more : DecodedLines text false old out from end groups last lf crlf → {n : ℕ} → Put text out out' (3 * groups) end n 0 → 0 < n
-      → (b w : ℕ) → end + 4 * n ≤ b → b ≤ length text → Blanks text (end + 4 * n) b → LineEndAt text b w → 0 < w
+      → (b w : ℕ) → end + 4 * n ≤ b → b ≤ length text → Blanks text (end + 4 * n) b → LfOrCrlf text b w
       → DecodedLines text false old out' from (b + w) (groups + n) (end + 4 * n) (lf + (2 - w)) (crlf + (w - 1))
-  any_line_more d {n} p some b w more inside blanks ended any =
+  any_line_more d {n} p some b w more inside blanks ended =
       let bytes : 3 * groups + 3 * n ≡ 3 * (groups + n) = omega arith in
       record {
         size = p.size ∙ d.size;
         room = omega (arith, p.room, p.size);
-        lines = line_more d.lines n b w some (p.inside (omega arith)) more inside blanks ended any;
-        written = rw bytes at (decoded_line (lines_inside start d.lines).forward d.written p (omega arith) _ (omega arith) (line_end_inside ended inside) (run_then (blanks_outside blanks) (line_end_outside ended)));
+        lines = line_more d.lines n b w some (p.inside (omega arith)) more inside blanks ended;
+        written = rw bytes at (decoded_line (lines_inside start d.lines).forward d.written p (omega arith) _ (omega arith) (line_end_inside ended) (run_then (blanks_outside blanks) (line_end_outside ended)));
       }
 
 -- Full lines, whatever line ends they have: their length tells.

@@ -8,30 +8,23 @@ use native.Mathlib.Numerals.{add-one}
 use lib.Dec.{ltb}
 use lib.ListN.{length, drop, get_or, length-drop}
 use lib.Seq.{drop-cons}
-use borrow.Author.Tests.{ltb-true, lt-ltb}
-use Rattle.base_64.specs.Alphabet.{radix, Sextet, value_of, answer_of}
-use Rattle.base_64.specs.declared.Value.TheVariants.{Of, Outside}
-use Rattle.base_64.proofs.Alphabet.{answer_value, answer_none}
+use borrow.Author.Tests.{ltb-true}
+use Rattle.base_64.specs.Alphabet.{radix, Sextet, value_of}
+use Rattle.std.specs.Prelude.{Option, Some, None}
 use Rattle.base_64.specs.Groups.{values_of}
 use Rattle.grammar.specs.Message.{characters}
 use Rattle.decoder.specs.declared.Open.{Open}
 use Rattle.decoder.specs.declared.Open.TheVariants.{Start, One, Two, Three}
 use Rattle.decoder.specs.declared.Fed.{Fed}
-use Rattle.decoder.specs.declared.Fed.TheVariants.{Held, Byte}
-use Rattle.decoder.specs.Feeding.{HoldsValue, fed, fed_byte, ahead, ahead_body}
-
-pub fed_inside : (g : Open) (c v : ℕ) → answer_of c ≡ Of v → fed_byte g c ≡ fed g v
-fed_inside g c v e =
-    let h = answer_value c v e in
-    rw (h.1, lt-ltb v radix h.0)
-
-pub fed_outside : (g : Open) (c : ℕ) → answer_of c ≡ Outside → fed_byte g c ≡ Held g
-fed_outside g c e = rw (answer_none c e)
+use Rattle.decoder.specs.Feeding.{HoldsValue, leaves, fed, fed_byte, ahead, ahead_body}
 
 -- The bytes that a byte gives, and those that are to come behind it.
+abbrev pub behind : Option ℕ → List ℕ → List ℕ
+behind None l = l
+behind (Some b) l = b ∷ l
+
 abbrev pub ahead_fed : Fed → List ℕ → List ℕ
-ahead_fed (Held g) vs = ahead g vs
-ahead_fed (Byte b g) vs = b ∷ ahead g vs
+ahead_fed f vs = behind f.byte (ahead f.group vs)
 
 ahead_value : (g : Open) (v : ℕ) (vs : List ℕ) → ahead g (v ∷ vs) ≡ ahead_fed (fed g v) vs
 ahead_value Start v vs = refl
@@ -53,31 +46,27 @@ ahead_byte : (g : Open) (c : ℕ) (l : List ℕ) → ahead_body g (c ∷ l) ≡ 
 unfolding characters
 ahead_byte g c l = go (ltb (value_of c) radix)
   where
-    go : (t : Bool) → ahead g (values_of (cond t (c ∷ characters l) (characters l))) ≡ ahead_fed (cond t (fed g (value_of c)) (Held g)) (values_of (characters l))
+    go : (t : Bool) → ahead g (values_of (cond t (c ∷ characters l) (characters l))) ≡ ahead_fed (cond t (fed g (value_of c)) (leaves g)) (values_of (characters l))
     go true = ahead_value g (value_of c) (values_of (characters l))
     go false = refl
 
 -- A group that the next byte of a body leaves holds a value again.
-abbrev pub HoldsFed : Fed → Type 0
-HoldsFed (Held g) = HoldsValue g
-HoldsFed (Byte b g) = HoldsValue g
-
-value_holds : (g : Open) (v : ℕ) → Sextet v → HoldsFed (fed g v)
+value_holds : (g : Open) (v : ℕ) → Sextet v → HoldsValue (fed g v).group
 value_holds Start v h = h
 value_holds (One a) v h = h
 value_holds (Two b) v h = h
 value_holds (Three c) v h = tt
 
-byte_holds : (g : Open) (c : ℕ) → HoldsValue g → HoldsFed (fed_byte g c)
+byte_holds : (g : Open) (c : ℕ) → HoldsValue g → HoldsValue (fed_byte g c).group
 byte_holds g c h = go (ltb (value_of c) radix) refl
   where
-    go : (t : Bool) → ltb (value_of c) radix ≡ t → HoldsFed (cond t (fed g (value_of c)) (Held g))
+    go : (t : Bool) → ltb (value_of c) radix ≡ t → HoldsValue (cond t (fed g (value_of c)) (leaves g)).group
     go true e = value_holds g (value_of c) (ltb-true (value_of c) radix e)
     go false e = h
 
 pub ahead_next : (g : Open) (f : Fed) (c : ℕ) (l : List ℕ) → HoldsValue g → fed_byte g c ≡ f
-    → HoldsFed f × (ahead_body g (c ∷ l) ≡ ahead_fed f (values_of (characters l)))
-ahead_next g f c l h e = (subst HoldsFed e (byte_holds g c h), ahead_byte g c l ∙ ap (λ (x : Fed). ahead_fed x (values_of (characters l))) e)
+    → HoldsValue f.group × (ahead_body g (c ∷ l) ≡ ahead_fed f (values_of (characters l)))
+ahead_next g f c l h e = (subst (λ (x : Fed). HoldsValue x.group) e (byte_holds g c h), ahead_byte g c l ∙ ap (λ (x : Fed). ahead_fed x (values_of (characters l))) e)
 
 -- ---- what is left of a list
 

@@ -1,6 +1,7 @@
 -- The rule of the table, and of the number that a group is. Assumes nothing.
 use mathlib.Core.Path.{◌≡◌, refl, ap, ◌∙◌}
 use mathlib.Core.Bool.{Bool, true, false}
+use mathlib.Core.List.{[], ◌∷◌}
 use Prim.Native.Nat.{ℕ, zero, suc, ◌+◌, ◌*◌, ◌/◌, ◌%◌, ◌≤◌, ◌<◌}
 use native.Mathlib.Omega.{arith}
 use lib.Dec.{ltb}
@@ -10,19 +11,20 @@ use Rattle.base_64.specs.Alphabet.{radix, value_of, AlphabetChar}
 use Rattle.base_64.specs.Groups.{byte1, byte2, byte3}
 use Rattle.base_64.proofs.Lists.{entries_at}
 use Rattle.runs.specs.Runs.{NoCharacter}
-use Rattle.decoder.specs.Tables.{mark, placed, marked, group_table, group_number}
+use Rattle.decoder.specs.Tables.{mark, placed, marked, entries_of, group_number}
 
--- The entry of a byte, from the first of its place on.
-pub table_rule : (first c : ℕ) → first + 256 ≤ 1024 → first % 256 ≡ 0 → c < 256 → get_or group_table (first + c) 0 ≡ marked (first / 256) c
-unfolding group_table
-table_rule first c h whole few =
-    let here : 0 + (first + c) ≡ first + c = omega arith in
-    let place : (first + c) / 256 ≡ first / 256 = omega arith in
-    let byte : (first + c) % 256 ≡ c = omega arith in
-    entries_at (λ k. marked (k / 256) (k % 256)) 1024 0 (first + c) (omega arith)
-    ∙ ap (λ (k : ℕ). marked (k / 256) (k % 256)) here
-    ∙ ap (λ (p : ℕ). marked p ((first + c) % 256)) place
-    ∙ ap (λ (b : ℕ). marked (first / 256) b) byte
+-- The entry of a byte.
+pub table_rule : (p c : ℕ) → c < 256 → get_or (entries_of p) c 0 ≡ marked p c
+unfolding entries_of
+table_rule p c h = entries_at (marked p) 256 0 c h ∙ (let here : 0 + c ≡ c = omega arith in ap (marked p) here)
+
+-- The entries of a place.
+pub row_at : (p : ℕ) → p < 4 → get_or (entries_of 0 ∷ entries_of 1 ∷ entries_of 2 ∷ entries_of 3 ∷ []) p [] ≡ entries_of p
+row_at zero h = refl
+row_at (suc zero) h = refl
+row_at (suc (suc zero)) h = refl
+row_at (suc (suc (suc zero))) h = refl
+row_at (suc (suc (suc (suc p)))) h = absurd (omega arith)
 
 -- What an entry is: that of an alphabet character's value, or the mark.
 pub data Entry (p c : ℕ) : Type 0 where

@@ -20,8 +20,9 @@ placed (suc (suc (suc p))) v = v * 65536
 abbrev pub marked : ℕ → ℕ → ℕ
 marked p c = cond (ltb (value_of c) radix) (placed p (value_of c)) mark
 
-unfoldable pub group_table : List ℕ
-group_table = entries (λ k. marked (k / 256) (k % 256)) 0 1024
+-- The entries of all bytes at a place.
+unfoldable pub entries_of : ℕ → List ℕ
+entries_of p = entries (marked p) 0 256
 
 -- The number that four bytes are; the mark or more where one of them is outside the alphabet.
 abbrev pub group_number : ℕ → ℕ → ℕ → ℕ → ℕ

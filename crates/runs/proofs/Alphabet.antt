@@ -13,12 +13,31 @@ use Rattle.base_64.proofs.Tests.{run, run_at}
 use Rattle.grammar.specs.Marks.{Blank}
 use Rattle.grammar.specs.Message.{characters}
 use Rattle.grammar.proofs.Counts.{characters_append, characters_alphabet}
-use Rattle.runs.specs.Runs.{NoCharacter, Characters, Outside, Blanks, LineEndAt, none, lf, crlf}
-use Rattle.runs.proofs.Runs.{run_none, run_one, run_then}
+use Rattle.runs.specs.Runs.{NoCharacter, Characters, Outside, Blanks, LfOrCrlf, lf, crlf}
+use Rattle.runs.proofs.Runs.{run_one, run_then}
 
 -- One test over bytes that follow each other.
-pub inside_range : (first n : ℕ) → T (run (λ c. ltb (value_of c) radix) first n) → (c : ℕ) → first ≤ c → c < first + n → AlphabetChar c
+inside_range : (first n : ℕ) → T (run (λ c. ltb (value_of c) radix) first n) → (c : ℕ) → first ≤ c → c < first + n → AlphabetChar c
 inside_range first n t c low high = ltb→lt (value_of c) radix (run_at (λ c. ltb (value_of c) radix) first n t c low high)
+
+-- The ranges of bytes that the alphabet has.
+pub upper_case : (c : ℕ) → 65 ≤ c → c ≤ 90 → AlphabetChar c
+unfolding value_of place_in alphabet
+upper_case c low high = inside_range 65 26 tt c low (omega arith)
+
+pub lower_case : (c : ℕ) → 97 ≤ c → c ≤ 122 → AlphabetChar c
+unfolding value_of place_in alphabet
+lower_case c low high = inside_range 97 26 tt c low (omega arith)
+
+pub slash_or_digit : (c : ℕ) → 47 ≤ c → c ≤ 57 → AlphabetChar c
+unfolding value_of place_in alphabet
+slash_or_digit c low high = inside_range 47 11 tt c low (omega arith)
+
+pub plus : (c : ℕ) → c ≡ 43 → AlphabetChar c
+unfolding value_of place_in alphabet
+plus c e = inside_range 43 1 tt c (omega arith) (omega arith)
+
+pub ruleset ranges = (upper_case, lower_case, slash_or_digit, plus)
 
 -- ---- runs of characters
 
@@ -63,9 +82,8 @@ blank_outside c (inr e) = rw e
 pub blanks_outside : {text : List ℕ} {i j : ℕ} → Blanks text i j → Outside text i j
 blanks_outside {text} b = record { all = λ k low high. blank_outside (get_or text k 0) (b.all k low high) }
 
-pub line_end_outside : {text : List ℕ} {i n : ℕ} → LineEndAt text i n → Outside text i (i + n)
+pub line_end_outside : {text : List ℕ} {i n : ℕ} → LfOrCrlf text i n → Outside text i (i + n)
 unfolding value_of place_in alphabet
-line_end_outside none = run_none (omega arith)
 line_end_outside (lf h e) = run_one (rw e)
 line_end_outside {text} {i} (crlf h e f) =
     let two : i + 1 + 1 ≡ i + 2 = omega arith in

@@ -4,10 +4,11 @@ use mathlib.Core.Bool.{Bool, true, false, false≢true}
 use mathlib.Core.List.{List}
 use Prim.Native.Nat.{ℕ, ◌+◌, ◌-◌, ◌*◌, ◌≤◌, ◌<◌}
 use native.Mathlib.Omega.{arith}
+use Rattle.std.specs.Prelude.{Some}
 use lib.ListN.{length}
-use Rattle.runs.specs.Runs.{Characters, Blanks, LineEndAt, IsLine, LinesTo, no_lines, a_line, OfLength, FullLength}
+use Rattle.runs.specs.Runs.{Characters, Blanks, LfOrCrlf, IsLine, LinesTo, no_lines, a_line, OfLength, FullLength}
 use Rattle.runs.specs.declared.Lines.{Lines}
-use Rattle.runs.proofs.Runs.{run_none, line_end_inside, line_end_width, line_end_behind}
+use Rattle.runs.proofs.Runs.{run_none, line_end_inside, line_end_width}
 
 -- Where they are, and how many groups and line ends there can be.
 pub record LinesInside (text : List ℕ) (i j groups m lf crlf : ℕ) : Type 0 where
@@ -24,11 +25,10 @@ inside_none h = record { forward = omega arith; inside = h; few = omega arith; l
 pub lines_inside : {text : List ℕ} {full : Bool} {i j groups m lf crlf : ℕ} → i ≤ length text → LinesTo text full i j groups m lf crlf
     → LinesInside text i j groups m lf crlf
 lines_inside h no_lines = inside_none h
-lines_inside h (a_line before n a b w e some line ends f) =
+lines_inside h (a_line before n a b w e some line f) =
     let first = lines_inside h before in
-    let end = line_end_behind line.line_end in
-    let inside = line_end_inside end line.inside in
-    let width = line_end_width end in
+    let inside = line_end_inside line.ended in
+    let width = line_end_width line.ended in
     record {
       forward = omega (arith, first.forward, line.some, line.more);
       inside = inside;
@@ -40,41 +40,37 @@ lines_inside h (a_line before n a b w e some line ends f) =
 
 -- One line more, of characters, blanks and a line end.
 pub line_more : {text : List ℕ} {i j groups m lf crlf : ℕ} → LinesTo text false i j groups m lf crlf → (n b w : ℕ) → 0 < n → Characters text j (j + 4 * n)
-    → j + 4 * n ≤ b → b ≤ length text → Blanks text (j + 4 * n) b → LineEndAt text b w → 0 < w
+    → j + 4 * n ≤ b → b ≤ length text → Blanks text (j + 4 * n) b → LfOrCrlf text b w
     → LinesTo text false i (b + w) (groups + n) (j + 4 * n) (lf + (2 - w)) (crlf + (w - 1))
-line_more {text} {j = j} l n b w some a more inside blanks end ends =
-    let width : b + w - b ≡ w = omega arith in
-    let line : IsLine text j (j + 4 * n) b (b + w) = record {
+line_more {text} {j = j} l n b w some a more inside blanks ended =
+    let line : IsLine text j (j + 4 * n) b (Some w) = record {
       some = omega arith;
       characters = a;
       more = more;
       blanks = blanks;
       inside = inside;
-      ends = omega arith;
-      line_end = rw width end;
+      ended = ended;
     } in
-    a_line l n (j + 4 * n) b w (omega arith) some line ends (λ e. absurd (false≢true e))
+    a_line l n (j + 4 * n) b w (omega arith) some line (λ e. absurd (false≢true e))
 
 -- One full line more.
 pub full_more : {text : List ℕ} {i j groups m lf crlf : ℕ} → LinesTo text true i j groups m lf crlf → (w : ℕ) → Characters text j (j + 64) → j + 64 ≤ length text
-    → LineEndAt text (j + 64) w → 0 < w → LinesTo text true i (j + 64 + w) (groups + 16) (j + 64) (lf + (2 - w)) (crlf + (w - 1))
-full_more {text} {j = j} lines w a inside end ends =
-    let width : j + 64 + w - (j + 64) ≡ w = omega arith in
-    let line : IsLine text j (j + 64) (j + 64) (j + 64 + w) = record {
+    → LfOrCrlf text (j + 64) w → LinesTo text true i (j + 64 + w) (groups + 16) (j + 64) (lf + (2 - w)) (crlf + (w - 1))
+full_more {text} {j = j} lines w a inside ended =
+    let line : IsLine text j (j + 64) (j + 64) (Some w) = record {
       some = omega arith;
       characters = a;
       more = omega arith;
       blanks = run_none (omega arith);
       inside = inside;
-      ends = omega arith;
-      line_end = rw width end;
+      ended = ended;
     } in
-    a_line lines 16 (j + 64) (j + 64) w (omega arith) (omega arith) line ends (λ t. (omega arith, omega arith))
+    a_line lines 16 (j + 64) (j + 64) w (omega arith) (omega arith) line (λ t. (omega arith, omega arith))
 
 -- Full lines are lines.
 pub full_lines : {text : List ℕ} {i j groups m lf crlf : ℕ} → LinesTo text true i j groups m lf crlf → LinesTo text false i j groups m lf crlf
 full_lines no_lines = no_lines
-full_lines (a_line before n a b w e some line ends f) = a_line (full_lines before) n a b w e some line ends (λ t. absurd (false≢true t))
+full_lines (a_line before n a b w e some line f) = a_line (full_lines before) n a b w e some line (λ t. absurd (false≢true t))
 
 -- ---- Full lines by their length
 
@@ -86,10 +82,10 @@ pub record FullTo (text : List ℕ) (i j groups m : ℕ) : Type 0 where
 
 full_length : {text : List ℕ} {i j groups m lf crlf : ℕ} → LinesTo text true i j groups m lf crlf → OfLength i j groups lf crlf
 full_length no_lines = (omega arith, omega arith)
-full_length (a_line before n a b w e some line ends f) =
+full_length (a_line before n a b w e some line f) =
     let h = full_length before in
     let full = f refl in
-    let width = line_end_width (line_end_behind line.line_end) in
+    let width = line_end_width line.ended in
     (omega (arith, h, full, width), omega (arith, h, full, width))
 
 pub full_lengths : {text : List ℕ} {i j groups m : ℕ} → FullTo text i j groups m → FullLength i j groups

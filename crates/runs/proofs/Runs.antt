@@ -8,8 +8,13 @@ use native.Mathlib.Omega.{arith}
 use lib.Dec.{eqb, ltb}
 use lib.ListN.{length, take, drop, get_or}
 use lib.Seq.{take-add, drop-drop}
+use Rattle.std.proofs.lemmas.List.{get_or-drop, take_rest}
 use borrow.Author.Tests.{eqb-true, eqb-false, ltb-true, ltb-false}
-use Rattle.runs.specs.Runs.{Run, between, LineEndAt, none, lf, crlf}
+use Rattle.runs.specs.Runs.{Run, between, LfOrCrlf, lf, crlf}
+
+-- What holds of each of its bytes, where their kind tells it.
+pub run_imp : {P Q : ℕ → Type 0} {text : List ℕ} {i j : ℕ} → Run P text i j → ((c : ℕ) → P c → Q c) → Run Q text i j
+run_imp {text = text} a f = record { all = λ k low high. f (get_or text k 0) (a.all k low high) }
 
 module _ {Kind : ℕ → Type 0} {text : List ℕ} {i j : ℕ} where
   pub run_none : j ≤ i → Run Kind text i j
@@ -41,17 +46,17 @@ between_join text i j l h more =
     ∙ ap (λ (x : List ℕ). between text i j ++ take (l - j) x) (drop-drop (j - i) i text ∙ ap (λ (n : ℕ). drop n text) place)
 
 -- A line end lies within the text.
-pub line_end_inside : {text : List ℕ} {i n : ℕ} → LineEndAt text i n → i ≤ length text → i + n ≤ length text
-line_end_inside none h = omega arith
-line_end_inside (lf more e) h = omega arith
-line_end_inside (crlf more e f) h = omega arith
+pub line_end_inside : {text : List ℕ} {i n : ℕ} → LfOrCrlf text i n → i + n ≤ length text
+line_end_inside (lf more e) = omega arith
+line_end_inside (crlf more e f) = omega arith
 
--- It has two bytes at most.
-pub line_end_width : {text : List ℕ} {i n : ℕ} → LineEndAt text i n → n ≤ 2
-line_end_width none = omega arith
-line_end_width (lf more e) = omega arith
-line_end_width (crlf more e f) = omega arith
+-- It has one byte or two.
+pub line_end_width : {text : List ℕ} {i n : ℕ} → LfOrCrlf text i n → (0 < n) × (n ≤ 2)
+line_end_width (lf more e) = (omega arith, omega arith)
+line_end_width (crlf more e f) = (omega arith, omega arith)
 
--- By its width, where a line says where it ends.
-pub line_end_behind : {text : List ℕ} {i n : ℕ} → LineEndAt text i (i + n - i) → LineEndAt text i n
-line_end_behind {i = i} {n = n} e = let width : i + n - i ≡ n = omega arith in rw width at e
+-- What stands at a place of the rest of a text, as code that takes the rest reads it.
+pub rest_at : (text : List ℕ) (i k : ℕ) → get_or (take (length text - i) (drop i text)) k 0 ≡ get_or text (i + k) 0
+rest_at text i k = rw take_rest (get_or-drop i text k 0)
+
+pub ruleset ends_found = (rest_at, lf, crlf)

@@ -1,5 +1,5 @@
 -- Runs of bytes of one kind, lines and words, by the places in a text at which they begin and end. Assumes nothing.
-use Rattle.std.specs.Prelude.{◌≡◌, Bool, true, false, List, ℕ, ◌+◌, ◌-◌, ◌*◌, ◌≤◌, ◌<◌, ltb, length, take, drop, get_or}
+use Rattle.std.specs.Prelude.{◌≡◌, Bool, true, false, Option, Some, None, List, ℕ, ◌+◌, ◌-◌, ◌*◌, ◌≤◌, ◌<◌, ltb, length, take, drop, get_or}
 use Rattle.base_64.specs.Alphabet.{radix, pad, value_of, AlphabetChar}
 use Rattle.grammar.specs.Marks.{CR, LF, Blank, LabelChar}
 
@@ -34,27 +34,30 @@ LabelRun = Run LabelChar
 abbrev pub between : List ℕ → ℕ → ℕ → List ℕ
 between text i j = take (j - i) (drop i text)
 
--- A line end of so many bytes at a place: none, LF, or CR and LF. A single CR is not looked for.
-pub data LineEndAt (text : List ℕ) (i : ℕ) : ℕ → Type 0 where
-  none : LineEndAt text i 0
-  lf : i < length text → get_or text i 0 ≡ LF → LineEndAt text i 1
-  crlf : i + 1 < length text → get_or text i 0 ≡ CR → get_or text (i + 1) 0 ≡ LF → LineEndAt text i 2
+-- A line end of so many bytes at a place: LF, or CR and LF. A single CR is not looked for.
+pub data LfOrCrlf (text : List ℕ) (i : ℕ) : ℕ → Type 0 where
+  lf : i < length text → get_or text i 0 ≡ LF → LfOrCrlf text i 1
+  crlf : i + 1 < length text → get_or text i 0 ≡ CR → get_or text (i + 1) 0 ≡ LF → LfOrCrlf text i 2
 
--- From i on characters up to j, blanks up to k, and a line end up to l.
-pub record IsLine (text : List ℕ) (i j k l : ℕ) : Type 0 where
+-- A line end as it is looked for: nothing is said where none is told.
+abbrev pub LineEndAt : List ℕ → ℕ → Option ℕ → Type 0
+LineEndAt text i None = Unit {0}
+LineEndAt text i (Some n) = LfOrCrlf text i n
+
+-- From i on characters up to j, blanks up to k, and there a line end or none.
+pub record IsLine (text : List ℕ) (i j k : ℕ) (line_end : Option ℕ) : Type 0 where
   pub some : i ≤ j
   pub characters : Characters text i j
   pub more : j ≤ k
   pub blanks : Blanks text j k
   pub inside : k ≤ length text
-  pub ends : k ≤ l
-  pub line_end : LineEndAt text k (l - k)
+  pub ended : LineEndAt text k line_end
 
 -- Lines of whole groups from i on up to j: so many groups in all, the last line's characters end at m, and so many of them end with
 -- LF and with CRLF, which the width of a line end tells. Full lines have 64 characters and no blanks.
 pub data LinesTo (text : List ℕ) (full : Bool) (i : ℕ) : (j groups m lf crlf : ℕ) → Type 0 where
   no_lines : LinesTo text full i i 0 i 0 0
-  a_line : {j groups m lf crlf : ℕ} → LinesTo text full i j groups m lf crlf → (n a b w : ℕ) → a ≡ j + 4 * n → 0 < n → IsLine text j a b (b + w) → 0 < w
+  a_line : {j groups m lf crlf : ℕ} → LinesTo text full i j groups m lf crlf → (n a b w : ℕ) → a ≡ j + 4 * n → 0 < n → IsLine text j a b (Some w)
       → (full ≡ true → (n ≡ 16) × (b ≡ a)) → LinesTo text full i (b + w) (groups + n) a (lf + (2 - w)) (crlf + (w - 1))
 
 -- Full lines of so many groups from i up to j, of which so many end with LF and so many with CRLF: what their lengths say.

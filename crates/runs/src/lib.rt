@@ -2,13 +2,12 @@
 // only what the bytes are that it has passed.
 #![tactic(auto)]
 
-ghost use Rattle.std.specs.Prelude.{◌≡◌, true, ◌+◌, ◌≤◌, length};
+ghost use Rattle.std.specs.Prelude.{◌≡◌, true, ◌+◌, ◌<◌, ◌≤◌, length};
 ghost use Rattle.base_64.specs.Alphabet.{AlphabetChar};
-ghost use Rattle.base_64.specs.Values.{DecodeTable};
-ghost use Rattle.grammar.specs.Marks.{Blank};
-ghost use Rattle.runs.specs.Runs.{Characters, Blanks, Pads, LabelRun, LineEndAt, IsLine, LinesTo, OfLength, FullLength, Stands};
+ghost use Rattle.grammar.specs.Marks.{Blank, LabelChar};
+ghost use Rattle.runs.specs.Runs.{Run, Characters, Blanks, Pads, LabelRun, LineEndAt, IsLine, LinesTo, OfLength, FullLength, Stands};
 
-use base_64::PAD;
+use base_64::{DecodeTable, PAD};
 use grammar::{CR, FIRST_MARK, HT, HYPHEN, LAST_MARK, LF, LINE_CHARS, LINE_GROUPS, SP};
 
 // How many bytes are tested at once where fewer than a line are left.
@@ -19,17 +18,18 @@ pub const LF_WIDTH: usize = 1;
 
 pub const CRLF_WIDTH: usize = 2;
 
-// A run of characters, blanks behind it and a line end, by the offsets at which they end; any of the three may be empty.
-#[derive(Clone, Copy)]
+// A run of characters and blanks behind it, by the offsets at which they end, and how many bytes the line end behind them has; any of
+// the three may be missing.
+#[derive(Clone, Copy, Debug, PartialEq, Eq)]
 pub struct Line {
     pub characters: usize,
     pub blanks: usize,
-    pub end: usize,
+    pub line_end: Option<usize>,
 }
 
 // Lines of whole groups: where they end, how many groups they have, where the characters of the last one end, and how many of
 // them end with LF and with CRLF.
-#[derive(Clone, Copy)]
+#[derive(Clone, Copy, Debug, PartialEq, Eq)]
 pub struct Lines {
     pub end: usize,
     pub groups: usize,
@@ -38,169 +38,124 @@ pub struct Lines {
     pub crlf: usize,
 }
 
-// 0 for a character of the alphabet, 1 for another byte. For whole blocks alone, and by plain comparisons where all else goes by
-// the decode table: a loop over them is made of vector code, and a loop over a table is not.
-fn outside(b: u8) -> u8
-    ensures { (result ≤ 1) × (result ≡ 0 → AlphabetChar b) }
+// Where the bytes end that pass a test, from a place on and up to a limit.
+pub fn end_of_run<F: Fn(u8) -> bool>(text: &[u8], from: usize, limit: usize, passes: F) -> usize
+    requires { (from ≤ limit) × (limit ≤ length text.now) × F.IsAlwaysCallable passes }
+    ensures { (from ≤ result) × (result ≤ limit) × Run (λ c. F.post passes c true) text.now from result }
 {
-    if b'A' <= b {
-        if b <= b'Z' {
-            return 0;
+    for at in from..limit {
+        if !passes(text[at]) {
+            return at;
         }
     }
-    if b'a' <= b {
-        if b <= b'z' {
-            return 0;
-        }
-    }
-    if b'/' <= b {
-        if b <= b'9' {
-            return 0;
-        }
-    }
-    if b == b'+' {
+    limit
+}
+
+// 0 for a character of the alphabet, 1 for another byte. For whole blocks alone, and by plain comparisons where all else goes by
+// the decode table: a loop over them is made of vector code, and one over a table, over patterns of ranges or over a single
+// condition is not, at 16 bytes.
+#[tactic(auto, using(crate::proofs::Alphabet::ranges))]
+fn outside(b: u8) -> u8
+    ensures { result ≡ 0 → AlphabetChar b }
+{
+    if b'A' <= b && b <= b'Z' {
         return 0;
     }
-    1
-}
-
-// Whether so many bytes from a place on are characters of the alphabet. The largest answer is kept and not their sum, of which the
-// vector code is slower.
-fn all_characters(text: &[u8], at: usize, n: usize) -> bool
-    requires { at + n ≤ length text.now }
-    ensures { result ≡ true → Characters text.now at (at + n) }
-{
-    let mut most: u8 = 0;
-    let mut k = 0;
-    while k < n {
-        let o = outside(text[at + k]);
-        if most < o {
-            most = o;
-        }
-        k += 1;
+    if b'a' <= b && b <= b'z' {
+        return 0;
     }
-    most == 0
+    if b'/' <= b && b <= b'9' {
+        return 0;
+    }
+    u8::from(b != b'+')
 }
 
-// How far a run of alphabet characters goes, up to the limit at the latest: by lines, by blocks, byte by byte. Each of the three may
-// stop early, and the next goes on. A look at the next byte in the table spares a block that would fail at once.
-fn run_by_lines(values: &[u8; 256], text: &[u8], from: usize, limit: usize) -> usize
-    requires { DecodeTable values.now × (from ≤ limit) × (limit ≤ length text.now) }
+// Whether the N bytes from a place on are characters of the alphabet. All of them are looked at, since vector code has no early end.
+#[tactic(auto, using(std::proofs::lemmas::Nat::le_or_l, std::proofs::lemmas::Nat::le_or_r))]
+fn all_characters<const N: usize>(text: &[u8], at: usize) -> bool
+    requires { at + N ≤ length text.now }
+    ensures { result ≡ true → Characters text.now at (at + N) }
+{
+    let mut any = 0;
+    for k in 0..N {
+        any |= outside(text[at + k]);
+    }
+    any == 0
+}
+
+// How far a run of alphabet characters goes, N of them at a time and up to the limit at the latest. It may stop early. A look at the
+// next byte in the table spares a block that would fail at once.
+fn run_by<const N: usize>(values: &DecodeTable, text: &[u8], from: usize, limit: usize) -> usize
+    requires { (0 < N) × (from ≤ limit) × (limit ≤ length text.now) }
     ensures { (from ≤ result) × (result ≤ limit) × Characters text.now from result }
 {
     let mut at = from;
-    while LINE_CHARS <= limit - at {
-        if !all_characters(text, at, LINE_CHARS) {
-            return at;
-        }
-        at += LINE_CHARS;
-        if at < limit {
-            if !base_64::is_character(values, text[at]) {
-                return at;
-            }
-        }
+    while N <= limit - at && values.is_character(text[at]) && all_characters::<N>(text, at) {
+        at += N;
     }
     at
 }
 
-fn run_by_blocks(values: &[u8; 256], text: &[u8], from: usize, limit: usize) -> usize
-    requires { DecodeTable values.now × (from ≤ limit) × (limit ≤ length text.now) }
+// The end of a run that is likely to be shorter than a full line: by blocks, and what is left byte by byte.
+#[tactic(auto, using(crate::proofs::Runs::run_imp, crate::proofs::Runs::run_then))]
+pub fn short_run_end(values: &DecodeTable, text: &[u8], from: usize, limit: usize) -> usize
+    requires { (from ≤ limit) × (limit ≤ length text.now) }
     ensures { (from ≤ result) × (result ≤ limit) × Characters text.now from result }
 {
-    let mut at = from;
-    while BLOCK <= limit - at {
-        if !base_64::is_character(values, text[at]) {
-            return at;
-        }
-        if !all_characters(text, at, BLOCK) {
-            return at;
-        }
-        at += BLOCK;
-    }
-    at
-}
-
-fn run_by_bytes(values: &[u8; 256], text: &[u8], from: usize, limit: usize) -> usize
-    requires { DecodeTable values.now × (from ≤ limit) × (limit ≤ length text.now) }
-    ensures { (from ≤ result) × (result ≤ limit) × Characters text.now from result }
-{
-    let mut at = from;
-    while at < limit {
-        if !base_64::is_character(values, text[at]) {
-            return at;
-        }
-        at += 1;
-    }
-    at
-}
-
-// The end of a run that is likely to be shorter than a full line.
-pub fn short_run_end(values: &[u8; 256], text: &[u8], from: usize, limit: usize) -> usize
-    requires { DecodeTable values.now × (from ≤ limit) × (limit ≤ length text.now) }
-    ensures { (from ≤ result) × (result ≤ limit) × Characters text.now from result }
-{
-    let blocks = run_by_blocks(values, text, from, limit);
-    run_by_bytes(values, text, blocks, limit)
+    let blocks = run_by::<BLOCK>(values, text, from, limit);
+    end_of_run(
+        text,
+        blocks,
+        limit,
+        |c|
+            ensures { result ≡ true → AlphabetChar c }
+        { values.is_character(c) },
+    )
 }
 
 // The end of a run of any length. Where a short one is likely no full line is tried first; what is found is the same.
-fn run_end(values: &[u8; 256], text: &[u8], from: usize, limit: usize, short: bool) -> usize
-    requires { DecodeTable values.now × (from ≤ limit) × (limit ≤ length text.now) }
+fn run_end(values: &DecodeTable, text: &[u8], from: usize, limit: usize, short: bool) -> usize
+    requires { (from ≤ limit) × (limit ≤ length text.now) }
     ensures { (from ≤ result) × (result ≤ limit) × Characters text.now from result }
 {
-    if short {
-        return short_run_end(values, text, from, limit);
-    }
-    let lines = run_by_lines(values, text, from, limit);
+    let lines = if short {
+        from
+    } else {
+        run_by::<LINE_CHARS>(values, text, from, limit)
+    };
     short_run_end(values, text, lines, limit)
 }
 
 fn is_blank(b: u8) -> bool
     ensures { result ≡ true → Blank b }
 {
-    if b == SP {
-        return true;
-    }
-    b == HT
+    matches!(b, SP | HT)
 }
 
 // The end of a run of blanks.
+#[tactic(auto, using(crate::proofs::Runs::run_imp))]
 pub fn blanks_end(text: &[u8], from: usize) -> usize
     requires { from ≤ length text.now }
     ensures { (from ≤ result) × (result ≤ length text.now) × Blanks text.now from result }
 {
-    let mut at = from;
-    while at < text.len() {
-        if !is_blank(text[at]) {
-            return at;
-        }
-        at += 1;
-    }
-    at
+    end_of_run(text, from, text.len(), is_blank)
 }
 
-// How many bytes the LF or the CRLF at a place has; 0 where none stands. A single CR is left to the machine's step.
-pub fn line_end_at(text: &[u8], at: usize) -> usize
+// How many bytes the LF or the CRLF at a place has, where one stands. A single CR is left to the machine's step.
+// LF is looked for first, before a second byte: that is faster.
+#[tactic(auto, using(crate::proofs::Runs::ends_found))]
+pub fn line_end_at(text: &[u8], at: usize) -> Option<usize>
     requires { at ≤ length text.now }
     ensures { LineEndAt text.now at result }
 {
-    let left = text.len() - at;
-    if left == 0 {
-        return 0;
+    let [first, rest @ ..] = &text[at..] else {
+        return None;
+    };
+    match (*first, rest) {
+        (LF, _) => Some(LF_WIDTH),
+        (CR, [LF, ..]) => Some(CRLF_WIDTH),
+        _ => None,
     }
-    if text[at] == LF {
-        return LF_WIDTH;
-    }
-    if left == 1 {
-        return 0;
-    }
-    if text[at] != CR {
-        return 0;
-    }
-    if text[at + 1] != LF {
-        return 0;
-    }
-    CRLF_WIDTH
 }
 
 // How many pads stand at a place, two at most.
@@ -208,33 +163,24 @@ pub fn pads_at(text: &[u8], at: usize) -> usize
     requires { at ≤ length text.now }
     ensures { (result ≤ 2) × (at + result ≤ length text.now) × Pads text.now at (at + result) }
 {
-    let left = text.len() - at;
-    if left == 0 {
-        return 0;
+    match &text[at..] {
+        [PAD, PAD, ..] => 2,
+        [PAD, ..] => 1,
+        _ => 0,
     }
-    if text[at] != PAD {
-        return 0;
-    }
-    if left == 1 {
-        return 1;
-    }
-    if text[at + 1] != PAD {
-        return 1;
-    }
-    2
 }
 
 // What stands at a place: a run of characters, which is likely to be short or not, blanks, a line end.
-pub fn line_at(values: &[u8; 256], text: &[u8], at: usize, short: bool) -> Line
-    requires { DecodeTable values.now × (at ≤ length text.now) }
-    ensures { IsLine text.now at result.characters result.blanks result.end }
+pub fn line_at(values: &DecodeTable, text: &[u8], at: usize, short: bool) -> Line
+    requires { (at ≤ length text.now) }
+    ensures { IsLine text.now at result.characters result.blanks result.line_end }
 {
     let characters = run_end(values, text, at, text.len(), short);
     let blanks = blanks_end(text, characters);
     Line {
         characters,
         blanks,
-        end: blanks + line_end_at(text, blanks),
+        line_end: line_end_at(text, blanks),
     }
 }
 
@@ -263,14 +209,10 @@ pub fn full_lines(text: &[u8], from: usize) -> Lines
     let mut end = from;
     let mut groups = 0;
     let mut last = from;
-    while LINE_CHARS < text.len() - end {
-        if !all_characters(text, end, LINE_CHARS) {
-            return counted_lines(from, end, groups, last);
-        }
-        let width = line_end_at(text, end + LINE_CHARS);
-        if width == 0 {
-            return counted_lines(from, end, groups, last);
-        }
+    while LINE_CHARS < text.len() - end && all_characters::<LINE_CHARS>(text, end) {
+        let Some(width) = line_end_at(text, end + LINE_CHARS) else {
+            break;
+        };
         last = end + LINE_CHARS;
         end = last + width;
         groups += LINE_GROUPS;
@@ -283,37 +225,20 @@ pub fn stands(text: &[u8], at: usize, word: &[u8], skip: usize) -> bool
     requires { (at ≤ length text.now) × (skip ≤ length word.now) }
     ensures { result ≡ true → Stands text.now at word.now skip }
 {
-    if text.len() - at < word.len() - skip {
-        return false;
-    }
-    let mut k = skip;
-    while k < word.len() {
-        if text[at + (k - skip)] != word[k] {
-            return false;
-        }
-        k += 1;
-    }
-    true
+    text[at..].starts_with(&word[skip..])
+}
+
+fn is_label_char(b: u8) -> bool
+    ensures { result ≡ true → LabelChar b }
+{
+    matches!(b, FIRST_MARK..=LAST_MARK) && b != HYPHEN
 }
 
 // The end of a run of label characters.
+#[tactic(auto, using(crate::proofs::Runs::run_imp))]
 pub fn label_run_end(text: &[u8], from: usize) -> usize
     requires { from ≤ length text.now }
     ensures { (from ≤ result) × (result ≤ length text.now) × LabelRun text.now from result }
 {
-    let mut at = from;
-    while at < text.len() {
-        let b = text[at];
-        if b < FIRST_MARK {
-            return at;
-        }
-        if LAST_MARK < b {
-            return at;
-        }
-        if b == HYPHEN {
-            return at;
-        }
-        at += 1;
-    }
-    at
+    end_of_run(text, from, text.len(), is_label_char)
 }

@@ -6,5 +6,5 @@ use Rattle.decoder.proofs.put_blocks.Goals as goal
 pub returns : goal.returns
 returns c =
     let skipped = c.skip_outside-start.ensures in
-    let there = further_skip (further_start c.requires.2 c.requires.3) skipped.0 skipped.1 skipped.2 in
-    (omega arith, further_put there c.put_run-groups.ensures (omega arith) _ _ refl refl)
+    let there = further_skip (further_start c.requires.0 c.requires.1) skipped.0 skipped.1 skipped.2 in
+    (refl, further_put there c.put_run-groups.ensures (omega arith) _ _ refl refl)

@@ -4,8 +4,10 @@ use Rattle.runs.proofs.Lined.{LinesInside}
 use Rattle.decoder.specs.Decoding.{DecodedLines}
 use Rattle.decoder.proofs.put_lines.Given as goal
 
-abbrev pub invariant-loop-end : goal.invariant-loop-end
-invariant-loop-end l = DecodedLines l.text false l.initial.out l.out l.from l.end l.groups l.last l.lf l.crlf × LinesInside l.text l.from l.end l.groups l.last l.lf l.crlf
+abbrev pub invariant-loop-lines : goal.invariant-loop-lines
+invariant-loop-lines l =
+    DecodedLines l.text false l.initial.out l.out l.from l.lines.end l.lines.groups l.lines.last l.lines.lf l.lines.crlf
+    × LinesInside l.text l.from l.lines.end l.lines.groups l.lines.last l.lines.lf l.lines.crlf
 
-abbrev pub decreases-loop-end : goal.decreases-loop-end
-decreases-loop-end l = length l.text - l.end
+abbrev pub decreases-loop-lines : goal.decreases-loop-lines
+decreases-loop-lines l = length l.text - l.lines.end

@@ -4,4 +4,4 @@ use Rattle.decoder.proofs.Decoding.{put_then}
 use Rattle.decoder.proofs.put_run.Goals as goal
 
 pub returns : goal.returns
-returns c = put_then c.run_of_fours-fours.ensures _ _ refl refl c.run_of_ones-ones.ensures _ 0 (omega arith) (omega arith)
+returns c = put_then c.run_of-fours.ensures _ _ refl refl c.run_of-ones.ensures _ 0 (omega arith) (omega arith)

@@ -10,18 +10,6 @@ loop-end-init c = record { lf = 0; crlf = 0; lines = no_lines }
 pub overflow_sub-text : goal.overflow_sub-text
 overflow_sub-text c = (lines_inside c.requires c.loop-end.invariant.lines).inside
 
-pub counted_lines-requires : goal.counted_lines-requires
-counted_lines-requires c = full_lengths c.loop-end.invariant
-
-pub returns-then-not-all_characters : goal.returns-then-not-all_characters
-returns-then-not-all_characters c = full_told c.loop-end.invariant _ c.counted_lines.ensures
-
-pub counted_lines-requires-then-width-eq0 : goal.counted_lines-requires-then-width-eq0
-counted_lines-requires-then-width-eq0 c = full_lengths c.loop-end.invariant
-
-pub returns-then-width-eq0 : goal.returns-then-width-eq0
-returns-then-width-eq0 c = full_told c.loop-end.invariant _ c.counted_lines-then-width-eq0.ensures
-
 pub overflow_add-groups : goal.overflow_add-groups
 overflow_add-groups c =
     let h = lines_inside c.requires c.loop-end.invariant.lines in
@@ -29,11 +17,11 @@ overflow_add-groups c =
 
 pub loop-end-preserved : goal.loop-end-preserved
 loop-end-preserved c =
-    let more = full_more c.loop-end.invariant.lines c.line_end_at-width.result (search rules) (omega arith) c.line_end_at-width.ensures (omega arith) in
+    let more = full_more c.loop-end.invariant.lines _ (search rules) (omega arith) c.in-Some.ensures in
     record { lf = _; crlf = _; lines = more }
 
-pub counted_lines-requires-2 : goal.counted_lines-requires-2
-counted_lines-requires-2 c = full_lengths c.loop-end.invariant
+pub counted_lines-requires : goal.counted_lines-requires
+counted_lines-requires c = full_lengths c.loop-end.invariant
 
 pub returns : goal.returns
-returns c = full_told c.loop-end.invariant _ c.counted_lines-2.ensures
+returns c = full_told c.loop-end.invariant _ c.counted_lines.ensures
