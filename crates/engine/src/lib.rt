@@ -2,11 +2,10 @@
 #![tactic(auto)]
 
 ghost use Rattle.std.specs.Prelude.{◌≡◌, length, get_or};
-ghost use Rattle.base_64.specs.Values.{DecodeTable};
 ghost use Rattle.machine.proofs.ByteKinds.{kind_of, other_kind};
 ghost use Rattle.machine.proofs.Machine.{word_of, word_step, label_target, label_step, target, behind, labelled, before_step, next, step, start, later, accepting, strict_accepting, is_after, dead, byte_part, boundary_part, lax_part, standard_part, strict_part, part_of};
 
-use base_64::PAD;
+use base_64::{DecodeTable, PAD};
 use grammar::{BEGIN, CR, END, FF, FIRST_MARK, Grammar, HT, HYPHEN, LAST_MARK, LF, SP, VT};
 use machine::{
     Boundary, Kind, LabelPhase, LabelRow, LabelTarget, LaxPhase, Part, Phase, Row, StandardPhase,
@@ -14,32 +13,24 @@ use machine::{
 };
 
 // The kind of a byte that is no blank, line end, VT, FF, hyphen or pad.
-fn other_kind(values: &[u8; 256], b: u8) -> Kind
-    requires { DecodeTable values.now }
+fn other_kind(values: &DecodeTable, b: u8) -> Kind
     ensures { result ≡ other_kind b }
 {
-    if base_64::is_character(values, b) {
-        return Kind::Alphabet;
+    match b {
+        _ if values.is_character(b) => Kind::Alphabet,
+        FIRST_MARK..=LAST_MARK => Kind::Mark,
+        _ => Kind::Other,
     }
-    if b < FIRST_MARK {
-        return Kind::Other;
-    }
-    if LAST_MARK < b {
-        return Kind::Other;
-    }
-    Kind::Mark
 }
 
 // The kind of a byte.
-pub fn kind_of(values: &[u8; 256], b: u8) -> Kind
-    requires { DecodeTable values.now }
+pub fn kind_of(values: &DecodeTable, b: u8) -> Kind
     ensures { result ≡ kind_of b }
 {
     match b {
         HT => Kind::Tab,
         LF => Kind::Lf,
-        VT => Kind::Feed,
-        FF => Kind::Feed,
+        VT | FF => Kind::Feed,
         CR => Kind::Cr,
         SP => Kind::Space,
         HYPHEN => Kind::Hyphen,
@@ -48,33 +39,13 @@ pub fn kind_of(values: &[u8; 256], b: u8) -> Kind
     }
 }
 
-// How long "-----BEGIN " or "-----END " is.
-fn word_length(boundary: Boundary) -> u8
-    ensures { result ≡ length (word_of boundary) }
+// What stands before the label of a boundary: "-----BEGIN " or "-----END ".
+pub fn word(boundary: Boundary) -> &'static [u8]
+    ensures { result.now ≡ word_of boundary }
 {
     match boundary {
-        Boundary::Opening => 11,
-        Boundary::Closing => 9,
-    }
-}
-
-// A byte of "-----BEGIN " or "-----END "; 0 behind their end.
-fn word_byte(boundary: Boundary, at: u8) -> u8
-    ensures { result ≡ get_or (word_of boundary) at 0 }
-{
-    match boundary {
-        Boundary::Opening => {
-            if at < 11 {
-                return BEGIN[at as usize];
-            }
-            0
-        }
-        Boundary::Closing => {
-            if at < 9 {
-                return END[at as usize];
-            }
-            0
-        }
+        Boundary::Opening => &BEGIN,
+        Boundary::Closing => &END,
     }
 }
 
@@ -82,18 +53,10 @@ fn word_byte(boundary: Boundary, at: u8) -> u8
 fn word_step(boundary: Boundary, read: u8, b: u8) -> Phase
     ensures { result ≡ word_step boundary read b }
 {
-    let length = word_length(boundary);
-    if length <= read {
-        return Phase::Dead;
-    }
-    let expected = word_byte(boundary, read);
-    if b != expected {
-        return Phase::Dead;
-    }
-    if read + 1 < length {
-        Phase::Word(boundary, read + 1)
-    } else {
-        Phase::Label(boundary, LabelPhase::Start)
+    match word(boundary).get(usize::from(read)..) {
+        Some([expected]) if *expected == b => Phase::Label(boundary, LabelPhase::Start),
+        Some([expected, ..]) if *expected == b => Phase::Word(boundary, read + 1),
+        _ => Phase::Dead,
     }
 }
 
@@ -102,22 +65,15 @@ fn label_target(row: LabelRow, kind: Kind) -> LabelTarget
     ensures { result ≡ label_target row kind }
 {
     match kind {
-        Kind::Tab => LabelTarget::Refused,
-        Kind::Space => row.space,
-        Kind::Cr => LabelTarget::Refused,
-        Kind::Lf => LabelTarget::Refused,
-        Kind::Feed => LabelTarget::Refused,
         Kind::Hyphen => row.hyphen,
-        Kind::Alphabet => row.char,
-        Kind::Pad => row.char,
-        Kind::Mark => row.char,
-        Kind::Other => LabelTarget::Refused,
+        Kind::Space => row.space,
+        Kind::Alphabet | Kind::Pad | Kind::Mark => row.char,
+        Kind::Tab | Kind::Cr | Kind::Lf | Kind::Feed | Kind::Other => LabelTarget::Refused,
     }
 }
 
 // Where a byte takes a label. The writer's test of a label goes by it too.
-pub fn label_step(values: &[u8; 256], phase: LabelPhase, b: u8) -> LabelTarget
-    requires { DecodeTable values.now }
+pub fn label_step(values: &DecodeTable, phase: LabelPhase, b: u8) -> LabelTarget
     ensures { result ≡ label_step phase b }
 {
     label_target(transitions::label_row(phase), kind_of(values, b))
@@ -127,17 +83,13 @@ pub fn label_step(values: &[u8; 256], phase: LabelPhase, b: u8) -> LabelTarget
 pub fn behind_boundary(grammar: Grammar, boundary: Boundary) -> Phase
     ensures { result ≡ behind grammar boundary }
 {
-    match boundary {
-        Boundary::Opening => match grammar {
-            Grammar::Lax => Phase::Lax(LaxPhase::Data),
-            Grammar::Standard => Phase::Standard(StandardPhase::Opened),
-            Grammar::Strict => Phase::Strict(StrictPhase::Opened),
-        },
-        Boundary::Closing => match grammar {
-            Grammar::Lax => Phase::Lax(LaxPhase::Closed),
-            Grammar::Standard => Phase::Standard(StandardPhase::Closed),
-            Grammar::Strict => Phase::Strict(StrictPhase::Closed),
-        },
+    match (grammar, boundary) {
+        (Grammar::Lax, Boundary::Opening) => Phase::Lax(LaxPhase::Data),
+        (Grammar::Standard, Boundary::Opening) => Phase::Standard(StandardPhase::Opened),
+        (Grammar::Strict, Boundary::Opening) => Phase::Strict(StrictPhase::Opened),
+        (Grammar::Lax, Boundary::Closing) => Phase::Lax(LaxPhase::Closed),
+        (Grammar::Standard, Boundary::Closing) => Phase::Standard(StandardPhase::Closed),
+        (Grammar::Strict, Boundary::Closing) => Phase::Strict(StrictPhase::Closed),
     }
 }
 
@@ -157,16 +109,13 @@ fn row_target(row: Row, kind: Kind) -> Phase
     ensures { result ≡ target row kind }
 {
     match kind {
-        Kind::Tab => row.blank,
-        Kind::Space => row.blank,
-        Kind::Cr => row.end,
-        Kind::Lf => row.end,
+        Kind::Tab | Kind::Space => row.blank,
+        Kind::Cr | Kind::Lf => row.end,
         Kind::Feed => row.feed,
         Kind::Hyphen => row.hyphen,
         Kind::Alphabet => row.alphabet,
         Kind::Pad => row.pad,
-        Kind::Mark => Phase::Dead,
-        Kind::Other => Phase::Dead,
+        Kind::Mark | Kind::Other => Phase::Dead,
     }
 }
 
@@ -175,22 +124,14 @@ fn before_step(kind: Kind) -> Phase
     ensures { result ≡ before_step kind }
 {
     match kind {
-        Kind::Tab => Phase::Before,
-        Kind::Space => Phase::Before,
-        Kind::Cr => Phase::Before,
-        Kind::Lf => Phase::Before,
-        Kind::Feed => Phase::Before,
+        Kind::Tab | Kind::Space | Kind::Cr | Kind::Lf | Kind::Feed => Phase::Before,
         Kind::Hyphen => Phase::Word(Boundary::Opening, 1),
-        Kind::Alphabet => Phase::Dead,
-        Kind::Pad => Phase::Dead,
-        Kind::Mark => Phase::Dead,
-        Kind::Other => Phase::Dead,
+        Kind::Alphabet | Kind::Pad | Kind::Mark | Kind::Other => Phase::Dead,
     }
 }
 
 // The phase behind the next byte.
-fn next_phase(values: &[u8; 256], grammar: Grammar, phase: Phase, b: u8) -> Phase
-    requires { DecodeTable values.now }
+fn next_phase(values: &DecodeTable, grammar: Grammar, phase: Phase, b: u8) -> Phase
     ensures { result ≡ next grammar phase b }
 {
     match phase {
@@ -220,14 +161,7 @@ pub fn start(grammar: Grammar) -> State
             phase: Phase::Before,
             cr: false,
         },
-        Grammar::Standard => State {
-            phase: Phase::Word(Boundary::Opening, 0),
-            cr: false,
-        },
-        Grammar::Strict => State {
-            phase: Phase::Word(Boundary::Opening, 0),
-            cr: false,
-        },
+        Grammar::Standard | Grammar::Strict => later(),
     }
 }
 
@@ -242,18 +176,14 @@ pub fn later() -> State
 }
 
 // The machine behind the next byte. LF behind CR is of the same line end and moves nothing.
-pub fn step(values: &[u8; 256], state: State, grammar: Grammar, b: u8) -> State
-    requires { DecodeTable values.now }
+pub fn step(values: &DecodeTable, state: State, grammar: Grammar, b: u8) -> State
     ensures { result ≡ step grammar state b }
 {
-    let phase = state.phase;
-    if state.cr {
-        if b == LF {
-            return State { phase, cr: false };
-        }
+    if state.cr && b == LF {
+        return State { cr: false, ..state };
     }
     State {
-        phase: next_phase(values, grammar, phase, b),
+        phase: next_phase(values, grammar, state.phase, b),
         cr: b == CR,
     }
 }
@@ -272,10 +202,8 @@ fn lax_part(phase: LaxPhase) -> Part
     ensures { result ≡ lax_part phase }
 {
     match phase {
-        LaxPhase::Data => Part::Body,
-        LaxPhase::OnePad => Part::Body,
-        LaxPhase::TwoPads => Part::Body,
         LaxPhase::Closed => Part::After,
+        _ => Part::Body,
     }
 }
 
@@ -283,19 +211,8 @@ fn standard_part(phase: StandardPhase) -> Part
     ensures { result ≡ standard_part phase }
 {
     match phase {
-        StandardPhase::Opened => Part::Body,
-        StandardPhase::Leading => Part::Body,
-        StandardPhase::BlankLine => Part::Body,
-        StandardPhase::Data => Part::Body,
-        StandardPhase::Trailing => Part::Body,
-        StandardPhase::Line => Part::Body,
-        StandardPhase::OnePad => Part::Body,
-        StandardPhase::PadTrailing => Part::Body,
-        StandardPhase::PadLine => Part::Body,
-        StandardPhase::Ending => Part::Body,
-        StandardPhase::Final => Part::Body,
-        StandardPhase::Closed => Part::After,
-        StandardPhase::Ended => Part::After,
+        StandardPhase::Closed | StandardPhase::Ended => Part::After,
+        _ => Part::Body,
     }
 }
 
@@ -303,15 +220,8 @@ fn strict_part(phase: StrictPhase) -> Part
     ensures { result ≡ strict_part phase }
 {
     match phase {
-        StrictPhase::Opened => Part::Body,
-        StrictPhase::First => Part::Body,
-        StrictPhase::Line => Part::Body,
-        StrictPhase::Data(_) => Part::Body,
-        StrictPhase::OnePad => Part::Body,
-        StrictPhase::Padded => Part::Body,
-        StrictPhase::Final => Part::Body,
-        StrictPhase::Closed => Part::After,
-        StrictPhase::Ended => Part::After,
+        StrictPhase::Closed | StrictPhase::Ended => Part::After,
+        _ => Part::Body,
     }
 }
 
@@ -321,8 +231,7 @@ pub fn part_of(phase: Phase) -> Part
 {
     match phase {
         Phase::Before => Part::Before,
-        Phase::Word(boundary, _) => boundary_part(boundary),
-        Phase::Label(boundary, _) => boundary_part(boundary),
+        Phase::Word(boundary, _) | Phase::Label(boundary, _) => boundary_part(boundary),
         Phase::Lax(lax) => lax_part(lax),
         Phase::Standard(standard) => standard_part(standard),
         Phase::Strict(strict) => strict_part(strict),
@@ -334,59 +243,18 @@ pub fn part_of(phase: Phase) -> Part
 pub fn is_dead(phase: Phase) -> bool
     ensures { result ≡ dead phase }
 {
-    match phase {
-        Phase::Before => false,
-        Phase::Word(_, _) => false,
-        Phase::Label(_, _) => false,
-        Phase::Lax(_) => false,
-        Phase::Standard(_) => false,
-        Phase::Strict(_) => false,
-        Phase::Dead => true,
-    }
+    matches!(phase, Phase::Dead)
 }
 
-// Whether a strict message, which has to end in a line end, is whole.
-fn strict_accepting(phase: StrictPhase) -> bool
-    ensures { result ≡ strict_accepting phase }
-{
-    match phase {
-        StrictPhase::Opened => false,
-        StrictPhase::First => false,
-        StrictPhase::Line => false,
-        StrictPhase::Data(_) => false,
-        StrictPhase::OnePad => false,
-        StrictPhase::Padded => false,
-        StrictPhase::Final => false,
-        StrictPhase::Closed => false,
-        StrictPhase::Ended => true,
-    }
-}
-
-// Whether a part is behind the closing.
-fn is_after(part: Part) -> bool
-    ensures { result ≡ is_after part }
-{
-    match part {
-        Part::Before => false,
-        Part::Opening => false,
-        Part::Body => false,
-        Part::Closing => false,
-        Part::After => true,
-    }
-}
-
-// Whether what has been read is a text of the grammar.
+// Whether what has been read is a text of the grammar. A strict one has to end in a line end.
 pub fn is_accepting(phase: Phase) -> bool
     ensures { result ≡ accepting phase }
 {
     match phase {
-        Phase::Before => false,
-        Phase::Word(_, _) => false,
-        Phase::Label(_, _) => false,
-        Phase::Lax(lax) => is_after(lax_part(lax)),
-        Phase::Standard(standard) => is_after(standard_part(standard)),
-        Phase::Strict(strict) => strict_accepting(strict),
-        Phase::Dead => false,
+        Phase::Lax(lax) => lax_part(lax) == Part::After,
+        Phase::Standard(standard) => standard_part(standard) == Part::After,
+        Phase::Strict(strict) => strict == StrictPhase::Ended,
+        _ => false,
     }
 }
 
@@ -395,23 +263,11 @@ pub fn is_accepting(phase: Phase) -> bool
 pub fn byte_part(from: Part, to: Part) -> Part
     ensures { result ≡ byte_part from to }
 {
-    match from {
-        Part::Before => match to {
-            Part::Before => Part::Before,
-            Part::Opening => Part::Opening,
-            Part::Body => Part::Opening,
-            Part::Closing => Part::Opening,
-            Part::After => Part::Opening,
-        },
-        Part::Opening => Part::Opening,
-        Part::Body => match to {
-            Part::Before => Part::Closing,
-            Part::Opening => Part::Closing,
-            Part::Body => Part::Body,
-            Part::Closing => Part::Closing,
-            Part::After => Part::Closing,
-        },
-        Part::Closing => Part::Closing,
-        Part::After => Part::After,
+    match (from, to) {
+        (Part::Before, Part::Before) => Part::Before,
+        (Part::Before | Part::Opening, _) => Part::Opening,
+        (Part::Body, Part::Body) => Part::Body,
+        (Part::Body | Part::Closing, _) => Part::Closing,
+        (Part::After, _) => Part::After,
     }
 }

@@ -1,9 +1,10 @@
 -- Where characters, blanks, pads, line ends and hyphens lead from the phases of a body. None of this has to be believed.
 -- Assumes nothing.
-use Rattle.std.specs.Prelude.{◌≡◌, Bool, true, false, ℕ}
+use Rattle.std.specs.Prelude.{◌≡◌, Bool, true, false, ℕ, Option, Some, None}
 use Rattle.base_64.specs.Alphabet.{pad}
 use Rattle.grammar.specs.Marks.{HT, SP, CR, LF, hyphen}
 use Rattle.grammar.specs.declared.Grammar.{Grammar}
+use Rattle.grammar.specs.declared.Grammar.TheVariants as grammar
 use Rattle.machine.proofs.Machine.{next, part_of, dead}
 use Rattle.machine.proofs.Runs.{Takes}
 use Rattle.machine.specs.declared.Boundary.TheVariants.{Closing}
@@ -13,8 +14,7 @@ use Rattle.machine.specs.declared.StandardPhase.TheVariants as standard
 use Rattle.machine.specs.declared.StrictPhase.TheVariants as strict
 use Rattle.machine.specs.declared.Phase.{Phase}
 use Rattle.machine.specs.declared.Phase.TheVariants.{Word, Lax, Standard, Strict}
-use Rattle.leaps.specs.declared.BodyLine.{BodyLine}
-use Rattle.leaps.specs.declared.BodyLine.TheVariants as body
+use Rattle.leaps.specs.declared.LinePhases.{LinePhases}
 
 -- Each alphabet character leads from one phase of the body to another.
 pub record OnCharacter (g : Grammar) (p q : Phase) : Type 0 where
@@ -51,24 +51,32 @@ pub data OnPads (g : Grammar) : (p : Phase) (n : ℕ) (q : Phase) → Type 0 whe
   one_pad : {p a q : Phase} → OnPad g p a → OnLineEnd g a q → OnPads g p 1 q
   two_pads : {p a b q : Phase} → OnPad g p a → OnPad g a b → OnLineEnd g b q → OnPads g p 2 q
 
--- Phases in which lines of any length are read: where they begin, within a line, behind a line end, behind a blank; and whether
--- characters may stand behind a blank.
-pub record LinePhases (g : Grammar) (first within behind trailing : Phase) (resumes : Bool) : Type 0 where
-  pub begins : OnCharacter g first within
-  pub goes_on : OnCharacter g within within
-  pub ends : OnLineEnd g within behind
-  pub again : OnCharacter g behind within
-  pub pauses : OnBlank g within trailing
-  pub stays : OnBlank g trailing trailing
-  pub closes : OnLineEnd g trailing behind
-  pub resumed : resumes ≡ true → OnCharacter g trailing within
+-- Lines of any length are read from a first phase on, in these phases.
+pub record Lined (g : Grammar) (first : Phase) (ps : LinePhases) : Type 0 where
+  pub begins : OnCharacter g first ps.within
+  pub goes_on : OnCharacter g ps.within ps.within
+  pub ends : OnLineEnd g ps.within ps.behind
+  pub again : OnCharacter g ps.behind ps.within
+  pub pauses : OnBlank g ps.within ps.trailing
+  pub stays : OnBlank g ps.trailing ps.trailing
+  pub closes : OnLineEnd g ps.trailing ps.behind
+  pub resumed : ps.resumes ≡ true → OnCharacter g ps.trailing ps.within
+
+abbrev line_phases : (within behind trailing : Phase) (resumes : Bool) → LinePhases
+line_phases within behind trailing resumes = record { within = within; behind = behind; trailing = trailing; resumes = resumes }
+
+abbrev pub lax_phases : LinePhases
+lax_phases = line_phases (Lax lax.Data) (Lax lax.Data) (Lax lax.Data) true
+
+abbrev pub standard_phases : LinePhases
+standard_phases = line_phases (Standard standard.Data) (Standard standard.Line) (Standard standard.Trailing) false
 
 -- A line of the body begins in a phase: how it goes on, whichever grammar's machine has come to it.
-abbrev pub LinesFrom : Phase → BodyLine → Type 0
-LinesFrom p body.Lax = (g : Grammar) → LinePhases g p (Lax lax.Data) (Lax lax.Data) (Lax lax.Data) true
-LinesFrom p body.Standard = (g : Grammar) → LinePhases g p (Standard standard.Data) (Standard standard.Line) (Standard standard.Trailing) false
-LinesFrom p body.Strict = (g : Grammar) → OnCharacter g p (Strict (strict.Data 63))
-LinesFrom p body.Elsewhere = Unit {0}
+abbrev pub LinesFrom : Phase → Option Grammar → Type 0
+LinesFrom p (Some grammar.Lax) = (g : Grammar) → Lined g p lax_phases
+LinesFrom p (Some grammar.Standard) = (g : Grammar) → Lined g p standard_phases
+LinesFrom p (Some grammar.Strict) = (g : Grammar) → OnCharacter g p (Strict (strict.Data 63))
+LinesFrom p None = Unit {0}
 
 -- A hyphen in a phase of the body is the first of the closing.
 pub record Closes (p : Phase) : Type 0 where

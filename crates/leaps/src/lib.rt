@@ -2,98 +2,67 @@
 // closing, and the line end of a boundary. It looks at no text.
 #![tactic(auto)]
 
-ghost use Rattle.std.specs.Prelude.{◌≡◌, true, false, cond, ◌≤◌, ◌<◌, eqb};
+ghost use Rattle.std.specs.Prelude.{◌≡◌, true, IfSome};
 ghost use Rattle.grammar.specs.Marks.{LF};
 ghost use Rattle.grammar.specs.declared.Grammar.{Grammar};
-ghost use Rattle.machine.proofs.Machine.{behind, next, dead};
-ghost use Rattle.machine.specs.declared.Phase.TheVariants.{Strict};
-ghost use Rattle.machine.specs.declared.StrictPhase.TheVariants.{Data};
+ghost use Rattle.machine.proofs.Machine.{behind, next};
 ghost use Rattle.leaps.specs.Phases.{LinesFrom, OnPads, Closes};
 
 use grammar::Grammar;
 use machine::{Boundary, LaxPhase, Phase, StandardPhase, StrictPhase};
 
-// Whether a line of the body begins in a phase, and under which grammar.
-#[derive(Clone, Copy)]
-pub enum BodyLine {
-    Lax,
-    Standard,
-    Strict,
-    Elsewhere,
+// The phases in which lines of any length are read: within a line, behind a line end, behind a blank; and whether characters may
+// stand behind a blank.
+#[derive(Clone, Copy, Debug, PartialEq, Eq, Hash)]
+pub struct LinePhases {
+    pub within: Phase,
+    pub behind: Phase,
+    pub trailing: Phase,
+    pub resumes: bool,
 }
 
-// Whether a line of the body begins in this phase.
-pub fn body_line(phase: Phase) -> BodyLine
+impl LinePhases {
+    pub const LAX: LinePhases = LinePhases {
+        within: Phase::Lax(LaxPhase::Data),
+        behind: Phase::Lax(LaxPhase::Data),
+        trailing: Phase::Lax(LaxPhase::Data),
+        resumes: true,
+    };
+
+    pub const STANDARD: LinePhases = LinePhases {
+        within: Phase::Standard(StandardPhase::Data),
+        behind: Phase::Standard(StandardPhase::Line),
+        trailing: Phase::Standard(StandardPhase::Trailing),
+        resumes: false,
+    };
+}
+
+// The grammar by which a line of the body begins in a phase, if one does.
+pub fn body_line(phase: Phase) -> Option<Grammar>
     ensures { LinesFrom phase result }
 {
     match phase {
-        Phase::Lax(lax) => match lax {
-            LaxPhase::Data => BodyLine::Lax,
-            _ => BodyLine::Elsewhere,
-        },
-        Phase::Standard(standard) => match standard {
-            StandardPhase::Leading => BodyLine::Standard,
-            StandardPhase::BlankLine => BodyLine::Standard,
-            StandardPhase::Line => BodyLine::Standard,
-            _ => BodyLine::Elsewhere,
-        },
-        Phase::Strict(strict) => match strict {
-            StrictPhase::First => BodyLine::Strict,
-            StrictPhase::Line => BodyLine::Strict,
-            _ => BodyLine::Elsewhere,
-        },
-        _ => BodyLine::Elsewhere,
+        Phase::Lax(LaxPhase::Data) => Some(Grammar::Lax),
+        Phase::Standard(StandardPhase::Leading | StandardPhase::BlankLine | StandardPhase::Line) =>
+            { Some(Grammar::Standard) }
+        Phase::Strict(StrictPhase::First | StrictPhase::Line) => Some(Grammar::Strict),
+        _ => None,
     }
 }
 
-// The phase behind one pad, or behind two.
-fn one_or_two(pads: usize, one: Phase, two: Phase) -> Phase
-    ensures { result ≡ cond (eqb pads 1) one two }
+// The phase behind one or two pads and a line end, where they may stand. Under strict the pads fill the last group of their line.
+pub fn padded(phase: Phase, pads: usize) -> Option<Phase>
+    ensures { IfSome result (λ next. (g : Grammar) → OnPads g phase pads next) }
 {
-    if pads == 1 {
-        return one;
-    }
-    two
-}
-
-// Under strict pads fill the last group of a line that has room for so many characters more.
-fn padded_strict(room: u8, pads: usize) -> Phase
-    requires { (0 < pads) × (pads ≤ 2) }
-    ensures { dead result ≡ false → (g : Grammar) → OnPads g (Strict (Data room)) pads result }
-{
-    if (room % 4) as usize != pads {
-        return Phase::Dead;
-    }
-    Phase::Strict(StrictPhase::Final)
-}
-
-// The phase behind one or two pads and a line end; dead where they may not stand.
-pub fn padded(phase: Phase, pads: usize) -> Phase
-    requires { (0 < pads) × (pads ≤ 2) }
-    ensures { dead result ≡ false → (g : Grammar) → OnPads g phase pads result }
-{
-    match phase {
-        Phase::Lax(lax) => match lax {
-            LaxPhase::Data => {
-                let one = Phase::Lax(LaxPhase::OnePad);
-                let two = Phase::Lax(LaxPhase::TwoPads);
-                one_or_two(pads, one, two)
-            }
-            _ => Phase::Dead,
-        },
-        Phase::Standard(standard) => match standard {
-            StandardPhase::Data => {
-                let one = Phase::Standard(StandardPhase::PadLine);
-                let two = Phase::Standard(StandardPhase::Final);
-                one_or_two(pads, one, two)
-            }
-            _ => Phase::Dead,
-        },
-        Phase::Strict(strict) => match strict {
-            StrictPhase::Data(room) => padded_strict(room, pads),
-            _ => Phase::Dead,
-        },
-        _ => Phase::Dead,
+    match (phase, pads) {
+        (Phase::Lax(LaxPhase::Data), 1) => Some(Phase::Lax(LaxPhase::OnePad)),
+        (Phase::Lax(LaxPhase::Data), 2) => Some(Phase::Lax(LaxPhase::TwoPads)),
+        (Phase::Standard(StandardPhase::Data), 1) => Some(Phase::Standard(StandardPhase::PadLine)),
+        (Phase::Standard(StandardPhase::Data), 2) => Some(Phase::Standard(StandardPhase::Final)),
+        (Phase::Strict(StrictPhase::Data(room)), 1 | 2) if usize::from(room % 4) == pads => {
+            Some(Phase::Strict(StrictPhase::Final))
+        }
+        _ => None,
     }
 }
 
@@ -102,24 +71,15 @@ pub fn closes(phase: Phase) -> bool
     ensures { result ≡ true → Closes phase }
 {
     match phase {
-        Phase::Lax(lax) => match lax {
-            LaxPhase::Data => true,
-            LaxPhase::OnePad => true,
-            LaxPhase::TwoPads => true,
-            _ => false,
-        },
-        Phase::Standard(standard) => match standard {
-            StandardPhase::BlankLine => true,
-            StandardPhase::Line => true,
-            StandardPhase::PadLine => true,
-            StandardPhase::Final => true,
-            _ => false,
-        },
-        Phase::Strict(strict) => match strict {
-            StrictPhase::Line => true,
-            StrictPhase::Final => true,
-            _ => false,
-        },
+        Phase::Lax(lax) => lax != LaxPhase::Closed,
+        Phase::Standard(standard) => matches!(
+            standard,
+            StandardPhase::BlankLine
+                | StandardPhase::Line
+                | StandardPhase::PadLine
+                | StandardPhase::Final
+        ),
+        Phase::Strict(strict) => matches!(strict, StrictPhase::Line | StrictPhase::Final),
         _ => false,
     }
 }
@@ -128,16 +88,12 @@ pub fn closes(phase: Phase) -> bool
 pub fn ended_boundary(grammar: Grammar, boundary: Boundary) -> Phase
     ensures { result ≡ next grammar (behind grammar boundary) LF }
 {
-    match boundary {
-        Boundary::Opening => match grammar {
-            Grammar::Lax => Phase::Lax(LaxPhase::Data),
-            Grammar::Standard => Phase::Standard(StandardPhase::Leading),
-            Grammar::Strict => Phase::Strict(StrictPhase::First),
-        },
-        Boundary::Closing => match grammar {
-            Grammar::Lax => Phase::Lax(LaxPhase::Closed),
-            Grammar::Standard => Phase::Standard(StandardPhase::Ended),
-            Grammar::Strict => Phase::Strict(StrictPhase::Ended),
-        },
+    match (grammar, boundary) {
+        (Grammar::Lax, Boundary::Opening) => Phase::Lax(LaxPhase::Data),
+        (Grammar::Standard, Boundary::Opening) => Phase::Standard(StandardPhase::Leading),
+        (Grammar::Strict, Boundary::Opening) => Phase::Strict(StrictPhase::First),
+        (Grammar::Lax, Boundary::Closing) => Phase::Lax(LaxPhase::Closed),
+        (Grammar::Standard, Boundary::Closing) => Phase::Standard(StandardPhase::Ended),
+        (Grammar::Strict, Boundary::Closing) => Phase::Strict(StrictPhase::Ended),
     }
 }

@@ -1,10 +1,10 @@
 // The machine that reads RFC 7468 text of one of the three grammars, a byte at a time: its kinds of byte and its phases. Where
 // each byte takes it stands in proofs/, as definitions, and so does the proof that it accepts exactly the texts of the grammars'
 // relations. The crates `transitions` and `engine` have its code.
-// The kinds of byte that the grammars tell apart.
 #![tactic(auto)]
 
-#[derive(Clone, Copy)]
+// The kinds of byte that the grammars tell apart.
+#[derive(Clone, Copy, Debug, PartialEq, Eq, Hash)]
 pub enum Kind {
     Tab,
     Space,
@@ -21,14 +21,14 @@ pub enum Kind {
 }
 
 // The opening or the closing boundary.
-#[derive(Clone, Copy)]
+#[derive(Clone, Copy, Debug, PartialEq, Eq, Hash)]
 pub enum Boundary {
     Opening,
     Closing,
 }
 
 // What has been read of a label and of the five hyphens behind it.
-#[derive(Clone, Copy)]
+#[derive(Clone, Copy, Debug, PartialEq, Eq, Hash)]
 pub enum LabelPhase {
     // Nothing.
     Start,
@@ -46,7 +46,7 @@ pub enum LabelPhase {
 }
 
 // What has been read of a lax message behind its opening.
-#[derive(Clone, Copy)]
+#[derive(Clone, Copy, Debug, PartialEq, Eq, Hash)]
 pub enum LaxPhase {
     // White and alphabet characters.
     Data,
@@ -59,7 +59,7 @@ pub enum LaxPhase {
 }
 
 // What has been read of a standard message behind its opening.
-#[derive(Clone, Copy)]
+#[derive(Clone, Copy, Debug, PartialEq, Eq, Hash)]
 pub enum StandardPhase {
     // Blanks.
     Opened,
@@ -90,7 +90,7 @@ pub enum StandardPhase {
 }
 
 // What has been read of a strict message behind its opening.
-#[derive(Clone, Copy)]
+#[derive(Clone, Copy, Debug, PartialEq, Eq, Hash)]
 pub enum StrictPhase {
     // Nothing.
     Opened,
@@ -113,7 +113,7 @@ pub enum StrictPhase {
 }
 
 // What has been read of a message.
-#[derive(Clone, Copy)]
+#[derive(Clone, Copy, Debug, PartialEq, Eq, Hash)]
 pub enum Phase {
     // White before the opening, under lax.
     Before,
@@ -128,7 +128,7 @@ pub enum Phase {
 }
 
 // The machine between two bytes.
-#[derive(Clone, Copy)]
+#[derive(Clone, Copy, Debug, PartialEq, Eq, Hash)]
 pub struct State {
     pub phase: Phase,
     // CR was read last.
@@ -136,7 +136,7 @@ pub struct State {
 }
 
 // The part of a message that the bytes read last belong to.
-#[derive(Clone, Copy)]
+#[derive(Clone, Copy, Debug, PartialEq, Eq, Hash)]
 pub enum Part {
     Before,
     Opening,
@@ -145,8 +145,9 @@ pub enum Part {
     After,
 }
 
-// Where a label goes on.
-#[derive(Clone, Copy)]
+// Where a label goes on. Of three cases, since the two ways on are as unlike as either is to a refusal: an Option round two of them
+// would nest what the tables lay out flat.
+#[derive(Clone, Copy, Debug, PartialEq, Eq, Hash)]
 pub enum LabelTarget {
     To(LabelPhase),
     // Its fifth hyphen has been read.
@@ -155,7 +156,7 @@ pub enum LabelTarget {
 }
 
 // Where a label goes on from one phase, by the kind of the next byte.
-#[derive(Clone, Copy)]
+#[derive(Clone, Copy, Debug, PartialEq, Eq, Hash)]
 pub struct LabelRow {
     pub hyphen: LabelTarget,
     pub space: LabelTarget,
@@ -163,7 +164,7 @@ pub struct LabelRow {
 }
 
 // Where the machine goes from one phase behind the opening, by the kind of the next byte.
-#[derive(Clone, Copy)]
+#[derive(Clone, Copy, Debug, PartialEq, Eq, Hash)]
 pub struct Row {
     pub blank: Phase,
     pub feed: Phase,

@@ -1,63 +1,50 @@
 // The machine's transition tables: for each phase the ways on, by kinds of byte. Each function equals its definition in the crate
-// `machine`.
+// `machine`, and the tables are laid out as there.
 #![tactic(auto)]
 
 ghost use Rattle.std.specs.Prelude.{◌≡◌};
-ghost use Rattle.machine.proofs.Machine.{label_row, line_end, line_char, line_pad, row, lax_row, standard_row, strict_row};
+ghost use Rattle.machine.proofs.Machine.{label_ways, label_row, line_end, line_char, line_pad, row, lax_row, standard_row, strict_row};
 
+use grammar::LINE_CHARS;
 use machine::{
     Boundary, LabelPhase, LabelRow, LabelTarget, LaxPhase, Phase, Row, StandardPhase, StrictPhase,
 };
 
 // How many characters a strict line has room for behind its first.
-const LINE_ROOM: u8 = 63;
+const LINE_ROOM: u8 = (LINE_CHARS - 1) as u8;
 
-// The ways on in a label.
+// The ways on from a phase of a label.
+fn label_ways(hyphen: LabelTarget, space: LabelTarget, char: LabelTarget) -> LabelRow
+    ensures { result ≡ label_ways hyphen space char }
+{
+    LabelRow {
+        hyphen,
+        space,
+        char,
+    }
+}
+
+// The ways on in a label: by a hyphen, a space, another character.
 pub fn label_row(phase: LabelPhase) -> LabelRow
     ensures { result ≡ label_row phase }
 {
     let refused = LabelTarget::Refused;
+    let char = LabelTarget::To(LabelPhase::Char);
+    let space = LabelTarget::To(LabelPhase::Space);
+    let hyphen = LabelTarget::To(LabelPhase::Hyphen);
+    let one = LabelTarget::To(LabelPhase::One);
+    let two = LabelTarget::To(LabelPhase::Two);
+    let three = LabelTarget::To(LabelPhase::Three);
+    let four = LabelTarget::To(LabelPhase::Four);
     match phase {
-        LabelPhase::Start => LabelRow {
-            hyphen: LabelTarget::To(LabelPhase::One),
-            space: refused,
-            char: LabelTarget::To(LabelPhase::Char),
-        },
-        LabelPhase::Char => LabelRow {
-            hyphen: LabelTarget::To(LabelPhase::Hyphen),
-            space: LabelTarget::To(LabelPhase::Space),
-            char: LabelTarget::To(LabelPhase::Char),
-        },
-        LabelPhase::Space => LabelRow {
-            hyphen: refused,
-            space: refused,
-            char: LabelTarget::To(LabelPhase::Char),
-        },
-        LabelPhase::Hyphen => LabelRow {
-            hyphen: LabelTarget::To(LabelPhase::Two),
-            space: refused,
-            char: LabelTarget::To(LabelPhase::Char),
-        },
-        LabelPhase::One => LabelRow {
-            hyphen: LabelTarget::To(LabelPhase::Two),
-            space: refused,
-            char: refused,
-        },
-        LabelPhase::Two => LabelRow {
-            hyphen: LabelTarget::To(LabelPhase::Three),
-            space: refused,
-            char: refused,
-        },
-        LabelPhase::Three => LabelRow {
-            hyphen: LabelTarget::To(LabelPhase::Four),
-            space: refused,
-            char: refused,
-        },
-        LabelPhase::Four => LabelRow {
-            hyphen: LabelTarget::Whole,
-            space: refused,
-            char: refused,
-        },
+        LabelPhase::Start => label_ways(one, refused, char),
+        LabelPhase::Char => label_ways(hyphen, space, char),
+        LabelPhase::Space => label_ways(refused, refused, char),
+        LabelPhase::Hyphen => label_ways(two, refused, char),
+        LabelPhase::One => label_ways(two, refused, refused),
+        LabelPhase::Two => label_ways(three, refused, refused),
+        LabelPhase::Three => label_ways(four, refused, refused),
+        LabelPhase::Four => label_ways(LabelTarget::Whole, refused, refused),
     }
 }
 
@@ -66,36 +53,32 @@ pub fn label_row(phase: LabelPhase) -> LabelRow
 fn line_end(room: u8) -> Phase
     ensures { result ≡ line_end room }
 {
-    if room == 0 {
-        return Phase::Strict(StrictPhase::Line);
+    match room {
+        0 => Phase::Strict(StrictPhase::Line),
+        _ if room % 4 == 0 => Phase::Strict(StrictPhase::Final),
+        _ => Phase::Dead,
     }
-    if room % 4 == 0 {
-        return Phase::Strict(StrictPhase::Final);
-    }
-    Phase::Dead
 }
 
 // A character more.
 fn line_char(room: u8) -> Phase
     ensures { result ≡ line_char room }
 {
-    if room == 0 {
-        return Phase::Dead;
+    match room.checked_sub(1) {
+        Some(left) => Phase::Strict(StrictPhase::Data(left)),
+        None => Phase::Dead,
     }
-    Phase::Strict(StrictPhase::Data(room - 1))
 }
 
 // A pad behind three or two characters of a group.
 fn line_pad(room: u8) -> Phase
     ensures { result ≡ line_pad room }
 {
-    if room % 4 == 1 {
-        return Phase::Strict(StrictPhase::Padded);
+    match room % 4 {
+        1 => Phase::Strict(StrictPhase::Padded),
+        2 => Phase::Strict(StrictPhase::OnePad),
+        _ => Phase::Dead,
     }
-    if room % 4 == 2 {
-        return Phase::Strict(StrictPhase::OnePad);
-    }
-    Phase::Dead
 }
 
 // The ways on from a phase.
