@@ -13,7 +13,7 @@ use Rattle.grammar.specs.Grammars.{grammar_of}
 use Rattle.grammar.specs.Message.{Reading, Consistent}
 use Rattle.grammar.specs.Bundle.{joined_text, Shapes, Item, item_of, table_of}
 use Rattle.grammar.specs.declared.Grammar.{Grammar}
-use Rattle.grammar.specs.declared.Numbered.TheVariants.{Known}
+use Rattle.std.specs.Prelude.{Some, Ok, Err}
 use Rattle.grammar.proofs.Bundle.{front_shapes, readings_unique}
 use Rattle.machine.proofs.Bundles.{joined_append}
 use Rattle.reading.specs.Answers.{offset}
@@ -26,13 +26,12 @@ use Rattle.reading.proofs.Whole.{front_same}
 use Rattle.reading.proofs.Judgements.{part_fails}
 use Rattle.reading.proofs.Results.{refusal_some}
 use Rattle.reading.proofs.Claims.{grammar_fails_lem, not_admitted_number, message_fails_number}
-use Rattle.indexing.specs.Answers.{size_for, table_size, number_of, place_of, size_of}
+use Rattle.indexing.specs.Answers.{size_for, table_size, number_of, place_of, size_of, IndexAnswer}
 use Rattle.indexing.specs.Meaning as meaning
 use Rattle.indexing.specs.Meaning.{Whole, AllWhole, Broken, Passed, Indexes}
 use Rattle.indexing.specs.Index.{index_of, lent_table}
 use Rattle.indexing.specs.Claims.{BrokenBundle, BundlePlace, Alike, AnswersZero, Indexable, ZeroExactly}
-use Rattle.indexing.specs.declared.IndexAnswer.{IndexAnswer}
-use Rattle.indexing.specs.declared.IndexAnswer.TheVariants as answer
+use Rattle.output.specs.declared.CallError.TheVariants.{Refused, TooSmall}
 use Rattle.indexing.proofs.Entries.{table_size_lem}
 use Rattle.indexing.proofs.Whole.{unextended_end, unextended_all_whole}
 use Rattle.indexing.proofs.Meaning.{broken_tells, index_means, indexes_index}
@@ -96,13 +95,13 @@ whole_back g (r ∷ a) b x w = whole_back g a b x w.1
 record One (text : List ℕ) (rs : List Reading) (room : ℕ) : Type 0 where
   reply : IndexAnswer
   table : List ℕ
-  given : (number : ℕ) (g : Grammar) → grammar_of number ≡ Known g → text ≡ joined_text rs → Shapes g rs → All (Consistent g) rs
+  given : (number : ℕ) (g : Grammar) → grammar_of number ≡ Some g → text ≡ joined_text rs → Shapes g rs → All (Consistent g) rs
       → Indexes text number room reply table
 
 one_long : (text : List ℕ) (rs : List Reading) (room : ℕ) → text_limit < length text → One text rs room
 one_long text rs room h =
     record {
-      reply = answer.Refused TextTooLong;
+      reply = Err (Refused TextTooLong);
       table = replicate room 0;
       given = λ number g k e m c. meaning.refused (meaning.not_admitted (rows.text_too_long g k h));
     }
@@ -111,22 +110,22 @@ one_short : (text : List ℕ) (rs : List Reading) (room : ℕ) → length text �
     → One text rs room
 one_short text _ room h (short rs s) true e =
     record {
-      reply = answer.TableTooSmall (table_size (size_for (length rs)));
+      reply = Err (TooSmall (table_size (size_for (length rs))));
       table = replicate room 0;
       given = λ number g k j m c. meaning.table_too_small g rs record { admitted = record { known = k; short = h }; joined = j; shapes = m; sound = sounds g rs s c } (ltb-true _ _ e);
     }
 one_short text _ room h (short rs s) false e =
     record {
-      reply = answer.Accepted (table_size (size_for (length rs)));
+      reply = Ok (table_size (size_for (length rs)));
       table = table_of rs ++ replicate (room - size_for (length rs)) 0;
       given = λ number g k j m c. meaning.accepted g rs record { admitted = record { known = k; short = h }; joined = j; shapes = m; sound = sounds g rs s c } (ltb-false _ _ e);
     }
 one_short text rs room h (long a r c s l) b e =
-    record { reply = answer.Refused (LabelTooLong (offset (length (joined_text a) + label_start r))); table = replicate room 0; given = given }
+    record { reply = Err (Refused (LabelTooLong (offset (length (joined_text a) + label_start r)))); table = replicate room 0; given = given }
   where
-    given : (number : ℕ) (g : Grammar) → grammar_of number ≡ Known g → text ≡ joined_text (a ++ (r ∷ c)) → Shapes g (a ++ (r ∷ c))
+    given : (number : ℕ) (g : Grammar) → grammar_of number ≡ Some g → text ≡ joined_text (a ++ (r ∷ c)) → Shapes g (a ++ (r ∷ c))
         → All (Consistent g) (a ++ (r ∷ c))
-        → Indexes text number room (answer.Refused (LabelTooLong (offset (length (joined_text a) + label_start r)))) (replicate room 0)
+        → Indexes text number room (Err (Refused (LabelTooLong (offset (length (joined_text a) + label_start r))))) (replicate room 0)
     given number g k j m n =
         let whole : AllWhole g (a ++ (r ∷ c)) [] = unextended_all_whole g (a ++ (r ∷ c)) [] m (unextended_end g (a ++ (r ∷ c))) in
         meaning.refused

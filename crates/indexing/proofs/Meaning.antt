@@ -18,8 +18,8 @@ use Rattle.grammar.specs.Message.{Reading, text_of}
 use Rattle.grammar.specs.Bundle.{joined_text, Shapes, table_of}
 use Rattle.grammar.specs.Starts.{BundleParse, LongestStart}
 use Rattle.grammar.specs.declared.Grammar.{Grammar}
-use Rattle.grammar.specs.declared.Numbered.{Numbered}
-use Rattle.grammar.specs.declared.Numbered.TheVariants.{Known, Unknown}
+use Rattle.std.specs.Prelude.{Option, Some, None, Ok, Err}
+use Rattle.output.specs.declared.CallError.TheVariants.{TooSmall}
 use Rattle.grammar.proofs.Bundle.{front_shapes, next_shape}
 use Rattle.machine.proofs.Machine.{run, start, later, part_of, accepting}
 use Rattle.machine.specs.declared.Part.{Part}
@@ -28,22 +28,18 @@ use Rattle.machine.proofs.Bundles.{Unextended, start_behind, joined_more, unexte
 use Rattle.reading.specs.Limits.{text_limit}
 use Rattle.reading.specs.Meaning as rows
 use Rattle.reading.specs.Meaning.{Admitted, Sound}
-use Rattle.reading.specs.Read.{layout_of, grammar_refusal, judged_parts}
+use Rattle.reading.specs.Read.{Judgement, layout_of, grammar_refusal, judged_parts}
 use Rattle.reading.specs.Scan.{no_tally, scan_of}
-use Rattle.reading.specs.declared.Judgement.{Judgement}
-use Rattle.reading.specs.declared.Judgement.TheVariants as judgement
 use Rattle.reading.specs.declared.Refusal.{Refusal}
 use Rattle.reading.proofs.Judgements as judgements
 use Rattle.reading.proofs.Judgements.{judged_reading, parts_judged, Verdict, reading_judged, fails_judged, sound_judged, Tells, part_fails, fails_part}
 use Rattle.reading.proofs.Meaning.{longest_unique}
 use Rattle.reading.proofs.Places.{opening_length, text_length}
 use Rattle.reading.proofs.Tallies.{tally_of}
-use Rattle.indexing.specs.Answers.{size_for, table_size}
+use Rattle.indexing.specs.Answers.{size_for, table_size, IndexAnswer}
 use Rattle.indexing.specs.Meaning as meaning
 use Rattle.indexing.specs.Meaning.{AllWhole, Judged, Broken, Refuses, Passed, Indexes}
-use Rattle.indexing.specs.Index.{judged_message, Walk, all, fault, onward, scan_from, walk, walk_of, walk_by, answered, tabled, index_of, lent_table}
-use Rattle.indexing.specs.declared.IndexAnswer.{IndexAnswer}
-use Rattle.indexing.specs.declared.IndexAnswer.TheVariants as answer
+use Rattle.indexing.specs.Index.{judged_message, Walk, onward, scan_from, walk, walk_of, walk_by, answered, tabled, index_of, lent_table}
 use Rattle.indexing.proofs.Entries.{entries_at, entries_length, entries_numbers, entries_more}
 use Rattle.indexing.proofs.Turns.{walk_on, walk_end}
 use Rattle.indexing.proofs.Whole.{whole_stops, stops_whole, all_whole_unextended, unextended_all_whole, unextended_end}
@@ -60,7 +56,7 @@ scan_here g text rs rest e =
     ap (scan_of g (start_behind g rs) 0 no_tally) (ap (drop (length (joined_text rs))) e ∙ drop_at (joined_text rs) rest (length (joined_text rs)) refl)
 
 -- At the end of the text all messages are found.
-walk_all : (most : ℕ) (g : Grammar) (text : List ℕ) (rs : List Reading) → text ≡ joined_text rs → walk_behind most g text rs ≡ all (entries_at 0 rs)
+walk_all : (most : ℕ) (g : Grammar) (text : List ℕ) (rs : List Reading) → text ≡ joined_text rs → walk_behind most g text rs ≡ Ok (entries_at 0 rs)
 walk_all most g text rs e = walk_end most g text (length (joined_text rs)) (start_behind g rs) (entries_at 0 rs) (omega (arith, ap length e))
 
 -- A message is not empty.
@@ -113,9 +109,9 @@ walk_sound most g text rs r s =
 walk_broken : (most : ℕ) (g : Grammar) (text : List ℕ) (rs : List Reading) (rest : List ℕ) → text ≡ joined_text rs ++ rest → 0 < length rest
     → accepting (scan_behind g rs rest).phase ≡ false
     → walk_behind (suc most) g text rs
-    ≡ fault (grammar_refusal (part_of (scan_behind g rs rest).phase) (length (joined_text rs) + (scan_behind g rs rest).length))
+    ≡ Err (grammar_refusal (part_of (scan_behind g rs rest).phase) (length (joined_text rs) + (scan_behind g rs rest).length))
 walk_broken most g text rs rest e some a =
-    let refused = judgement.Refused (grammar_refusal (part_of (scan_behind g rs rest).phase) (length (joined_text rs) + (scan_behind g rs rest).length)) in
+    let refused : Judgement = Err (grammar_refusal (part_of (scan_behind g rs rest).phase) (length (joined_text rs) + (scan_behind g rs rest).length)) in
     let judged : judged_message g text (length (joined_text rs)) (scan_behind g rs rest) ≡ refused = rw a in
     walk_on most g text (length (joined_text rs)) (start_behind g rs) (entries_at 0 rs) (goes_on text rs rest e some) refused
     (ap (judged_message g text (length (joined_text rs))) (scan_here g text rs rest e) ∙ judged)
@@ -123,8 +119,8 @@ walk_broken most g text rs rest e some a =
 -- ---- What a walk means
 
 pub data Means (text : List ℕ) (number : ℕ) : Walk → Type 0 where
-  passed : (g : Grammar) (rs : List Reading) → Passed text number g rs → Means text number (all (entries_at 0 rs))
-  refused : {refusal : Refusal} → Refuses text number refusal → Means text number (fault refusal)
+  passed : (g : Grammar) (rs : List Reading) → Passed text number g rs → Means text number (Ok (entries_at 0 rs))
+  refused : {refusal : Refusal} → Refuses text number refusal → Means text number (Err refusal)
 
 judged_end : (text : List ℕ) (number : ℕ) (g : Grammar) (rs : List Reading) → Judged text number g rs [] → Passed text number g rs
 judged_end text number g rs j =
@@ -192,7 +188,7 @@ walk_known text number g a = ap (λ n. walk_by n text) a.known ∙ rw (le-ltb te
 pub walk_by_means : (text : List ℕ) (number : ℕ) → Means text number (walk_by (grammar_of number) text)
 walk_by_means text number = by_number (grammar_of number) refl
   where
-    known : (g : Grammar) → grammar_of number ≡ Known g → (a : Bool) → ltb text_limit (length text) ≡ a → Means text number (walk_by (grammar_of number) text)
+    known : (g : Grammar) → grammar_of number ≡ Some g → (a : Bool) → ltb text_limit (length text) ≡ a → Means text number (walk_by (grammar_of number) text)
     known g e true long =
         rw (ap (λ n. walk_by n text) e) (rw long (refused (meaning.not_admitted (rows.text_too_long g e (ltb-true text_limit (length text) long)))))
     known g e false short =
@@ -200,9 +196,9 @@ walk_by_means text number = by_number (grammar_of number) refl
         rw (walk_known text number g a)
         (walk_means text number g (length text) [] text (omega arith) record { admitted = a; joined = refl; shapes = tt; whole = tt; sound = tt })
 
-    by_number : (n : Numbered) → grammar_of number ≡ n → Means text number (walk_by (grammar_of number) text)
-    by_number Unknown e = rw (ap (λ n. walk_by n text) e) (refused (meaning.not_admitted (rows.unknown_grammar e)))
-    by_number (Known g) e = known g e (ltb text_limit (length text)) refl
+    by_number : (n : Option Grammar) → grammar_of number ≡ n → Means text number (walk_by (grammar_of number) text)
+    by_number None e = rw (ap (λ n. walk_by n text) e) (refused (meaning.not_admitted (rows.unknown_grammar e)))
+    by_number (Some g) e = known g e (ltb text_limit (length text)) refl
 
 -- ---- Each row leaves one walk only
 
@@ -237,7 +233,7 @@ judged_over text number g rs rest j =
     record { most = o.most; enough = o.enough; same = walk_known text number g j.admitted ∙ o.same }
 
 pub passed_walk : (text : List ℕ) (number : ℕ) (g : Grammar) (rs : List Reading) → Passed text number g rs
-    → walk_by (grammar_of number) text ≡ all (entries_at 0 rs)
+    → walk_by (grammar_of number) text ≡ Ok (entries_at 0 rs)
 passed_walk text number g rs p =
     let j : Judged text number g rs [] = record {
       admitted = p.admitted;
@@ -295,7 +291,7 @@ broken_tells text number g rs rest k b =
     let same : (scan_behind g rs rest).length ≡ k = omega (arith, q) in
     (same, subst (λ i. Tells g (take i rest) (part_of (scan_behind g rs rest).phase)) same next.tells)
 
-pub refuses_walk : (text : List ℕ) (number : ℕ) (refusal : Refusal) → Refuses text number refusal → walk_by (grammar_of number) text ≡ fault refusal
+pub refuses_walk : (text : List ℕ) (number : ℕ) (refusal : Refusal) → Refuses text number refusal → walk_by (grammar_of number) text ≡ Err refusal
 refuses_walk text number refusal (meaning.not_admitted (rows.unknown_grammar e)) = ap (λ n. walk_by n text) e
 refuses_walk text number refusal (meaning.not_admitted (rows.text_too_long g e h)) =
     ap (λ n. walk_by n text) e ∙ rw (lt-ltb text_limit (length text) h)
@@ -303,7 +299,7 @@ refuses_walk text number refusal (meaning.message_fails g rs r x j m w f) =
     let o = judged_over text number g rs (text_of r ++ x) j in
     o.same ∙ last o.most o.enough
   where
-    last : (most : ℕ) → length (text_of r ++ x) ≤ most → walk_behind most g text rs ≡ fault refusal
+    last : (most : ℕ) → length (text_of r ++ x) ≤ most → walk_behind most g text rs ≡ Err refusal
     last zero n = absurd (omega (arith, length-append (text_of r) x, text_long r))
     last (suc most) n =
         walk_whole most g text rs r x j.joined m (whole_stops g r x w)
@@ -315,27 +311,27 @@ refuses_walk text number refusal (meaning.grammar_fails g rs rest k b f) =
     some : 0 < length rest
     some = some_bytes rest (broken_rest text number g rs rest k b)
 
-    last : (most : ℕ) → length rest ≤ most → walk_behind most g text rs ≡ fault refusal
+    last : (most : ℕ) → length rest ≤ most → walk_behind most g text rs ≡ Err refusal
     last zero n = absurd (omega (arith, some))
     last (suc most) n =
         let (same, tells) = broken_tells text number g rs rest k b in
         let p : Part = part_of (scan_behind g rs rest).phase in
         walk_broken most g text rs rest b.judged.joined some (broken_refuses text number g rs rest k b)
-        ∙ ap (λ i. fault (grammar_refusal p (length (joined_text rs) + i))) same
-        ∙ ap fault (fails_part g (take k rest) (length (joined_text rs) + k) p refusal tells f)
+        ∙ ap (λ i. Err (grammar_refusal p (length (joined_text rs) + i))) same
+        ∙ ap Err (fails_part g (take k rest) (length (joined_text rs) + k) p refusal tells f)
 
 -- ---- The call
 
 passed_answer : (rs : List Reading) (room : ℕ) → size_for (length rs) ≤ room
-    → (answered (all (entries_at 0 rs)) room ≡ answer.Accepted (table_size (size_for (length rs))))
-    × (tabled (all (entries_at 0 rs)) room ≡ table_of rs ++ replicate (room - size_for (length rs)) 0)
+    → (answered (Ok (entries_at 0 rs)) room ≡ Ok (table_size (size_for (length rs))))
+    × (tabled (Ok (entries_at 0 rs)) room ≡ table_of rs ++ replicate (room - size_for (length rs)) 0)
 passed_answer rs room h =
     let t : ltb room (size_for (length rs)) ≡ false = le-ltb room (size_for (length rs)) h in
     (rw (entries_length 0 rs, t), rw (entries_length 0 rs, t, entries_numbers 0 rs))
 
 small_answer : (rs : List Reading) (room : ℕ) → room < size_for (length rs)
-    → (answered (all (entries_at 0 rs)) room ≡ answer.TableTooSmall (table_size (size_for (length rs))))
-    × (tabled (all (entries_at 0 rs)) room ≡ replicate room 0)
+    → (answered (Ok (entries_at 0 rs)) room ≡ Err (TooSmall (table_size (size_for (length rs)))))
+    × (tabled (Ok (entries_at 0 rs)) room ≡ replicate room 0)
 small_answer rs room h =
     let t : ltb room (size_for (length rs)) ≡ true = lt-ltb room (size_for (length rs)) h in
     (rw (entries_length 0 rs, t), rw (entries_length 0 rs, t))
@@ -345,7 +341,7 @@ pub index_means : (text : List ℕ) (number room : ℕ) → Indexes text number 
 index_means text number room = go (walk_by (grammar_of number) text) (walk_by_means text number)
   where
     fits : (g : Grammar) (rs : List Reading) → Passed text number g rs → (b : Bool) → ltb room (size_for (length rs)) ≡ b
-        → Indexes text number room (answered (all (entries_at 0 rs)) room) (tabled (all (entries_at 0 rs)) room)
+        → Indexes text number room (answered (Ok (entries_at 0 rs)) room) (tabled (Ok (entries_at 0 rs)) room)
     fits g rs p true e =
         let h : room < size_for (length rs) = ltb-true room (size_for (length rs)) e in
         rw ((small_answer rs room h).0, (small_answer rs room h).1) (meaning.table_too_small g rs p h)

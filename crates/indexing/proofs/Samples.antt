@@ -12,11 +12,11 @@ use Rattle.base_64.proofs.Tests.{both, both_left, both_right}
 use Rattle.grammar.specs.Families.{family_in}
 use Rattle.grammar.specs.Message.{characters, pad_count}
 use Rattle.reading.proofs.Samples.{settled, refusal_settled, tested_same, rows_hold}
-use Rattle.indexing.specs.Answers.{table_size, number_of, place_of, size_of}
+use Rattle.indexing.specs.Answers.{table_size, number_of, place_of, size_of, IndexAnswer}
 use Rattle.indexing.specs.Index.{index_of, lent_table}
 use Rattle.indexing.specs.Samples.{Outcome, room, answer_for, table_for, Holds, rows, Samples}
-use Rattle.indexing.specs.declared.IndexAnswer.{IndexAnswer}
-use Rattle.indexing.specs.declared.IndexAnswer.TheVariants.{Accepted, Refused, TableTooSmall}
+use Rattle.std.specs.Prelude.{Ok, Err}
+use Rattle.output.specs.declared.CallError.TheVariants.{Refused, TooSmall}
 use Rattle.indexing.proofs.Meaning.{index_means}
 
 -- An answer is settled by its three numbers.
@@ -24,12 +24,12 @@ abbrev code_of : IndexAnswer → List ℕ
 code_of a = number_of a ∷ place_of a ∷ size_of a ∷ []
 
 abbrev answer_by : List ℕ → IndexAnswer
-answer_by l = settled (Accepted (table_size (get_or l 2 0))) (TableTooSmall (table_size (get_or l 2 0))) Refused (get_or l 0 0) (get_or l 1 0)
+answer_by l = settled (Ok (table_size (get_or l 2 0))) (Err (TooSmall (table_size (get_or l 2 0)))) (λ r. Err (Refused r)) (get_or l 0 0) (get_or l 1 0)
 
 answer_coded : (a : IndexAnswer) → answer_by (code_of a) ≡ a
-answer_coded (Accepted size) = refl
-answer_coded (TableTooSmall size) = refl
-answer_coded (Refused r) = refusal_settled _ _ Refused r
+answer_coded (Ok size) = refl
+answer_coded (Err (TooSmall size)) = refl
+answer_coded (Err (Refused r)) = refusal_settled _ _ (λ q. Err (Refused q)) r
 
 answer_unique : (a b : IndexAnswer) → code_of a ≡ code_of b → a ≡ b
 answer_unique a b e = sym (answer_coded a) ∙ ap answer_by e ∙ answer_coded b

@@ -1,12 +1,11 @@
 -- What demands 2 and 3 say of the index call, on the definitions that the call's promise equals. Assumes nothing.
-use Rattle.std.specs.Prelude.{◌≡◌, List, ◌++◌, ℕ, ◌-◌, ◌≤◌, length, replicate}
+use Rattle.std.specs.Prelude.{◌≡◌, List, ◌++◌, ℕ, ◌-◌, ◌≤◌, length, replicate, Some}
 use Rattle.base_64.specs.Lists.{All}
 use Rattle.grammar.specs.Grammars.{grammar_of}
 use Rattle.grammar.specs.Message.{Reading}
 use Rattle.grammar.specs.Bundle.{Item, Bundle}
 use Rattle.grammar.specs.Starts.{BundleParse, LongestStart}
 use Rattle.grammar.specs.declared.Grammar.{Grammar}
-use Rattle.grammar.specs.declared.Numbered.TheVariants.{Known}
 use Rattle.reading.specs.Limits.{text_limit, label_limit}
 use Rattle.reading.specs.Meaning.{Admitted}
 use Rattle.reading.specs.Claims.{GrammarRefusalNumber}
@@ -37,7 +36,7 @@ pub record BundlePlace : Type 0 where
 -- The grammar of this number accepts the text: it has a list under it as a bundle. No limit plays a part.
 pub record Accepts (number : ℕ) (text : List ℕ) : Type 0 where
   pub grammar : Grammar
-  pub known : grammar_of number ≡ Known grammar
+  pub known : grammar_of number ≡ Some grammar
   pub list : List Item
   pub table : List ℕ
   pub bundle : Bundle grammar text list table
@@ -59,7 +58,7 @@ pub record AnswersZero (text : List ℕ) (number room : ℕ) (table : List ℕ) 
 -- fits.
 pub record Indexable (text : List ℕ) (number room : ℕ) (table : List ℕ) : Type 0 where
   pub grammar : Grammar
-  pub known : grammar_of number ≡ Known grammar
+  pub known : grammar_of number ≡ Some grammar
   pub list : List Item
   pub bundle : Bundle grammar text list table
   pub short_labels : All (λ i. length i.label ≤ label_limit) list

@@ -1,6 +1,6 @@
 -- What the numbers 0 to 10 of the index call mean, in the requirements' order and in the grammars' relations. The rows 1 to 9
 -- are the reader's, said of the text, of the messages' longest start, or of one message. Assumes nothing.
-use Rattle.std.specs.Prelude.{◌≡◌, ◌≢◌, List, [], ◌∷◌, ◌++◌, ℕ, ◌+◌, ◌-◌, ◌≤◌, ◌<◌, length, take, replicate}
+use Rattle.std.specs.Prelude.{◌≡◌, ◌≢◌, List, [], ◌∷◌, ◌++◌, ℕ, ◌+◌, ◌-◌, ◌≤◌, ◌<◌, length, take, replicate, Ok, Err}
 use Rattle.base_64.specs.Lists.{All}
 use Rattle.grammar.specs.Message.{Reading, text_of, Shape}
 use Rattle.grammar.specs.Bundle.{joined_text, Shapes, table_of}
@@ -8,9 +8,8 @@ use Rattle.grammar.specs.Starts.{Parse, BundleParse, Begins, LongestStart}
 use Rattle.grammar.specs.declared.Grammar.{Grammar}
 use Rattle.reading.specs.Meaning.{Admitted, Sound, NotAdmitted, GrammarFails, MessageFails}
 use Rattle.reading.specs.declared.Refusal.{Refusal}
-use Rattle.indexing.specs.Answers.{size_for, table_size}
-use Rattle.indexing.specs.declared.IndexAnswer.{IndexAnswer}
-use Rattle.indexing.specs.declared.IndexAnswer.TheVariants.{Accepted, Refused, TableTooSmall}
+use Rattle.indexing.specs.Answers.{size_for, table_size, IndexAnswer}
+use Rattle.output.specs.declared.CallError.TheVariants.{Refused, TooSmall}
 
 -- A message is whole: nothing stands behind it, or a byte that cannot extend it.
 abbrev pub Whole : Grammar → Reading → List ℕ → Type 0
@@ -61,9 +60,9 @@ pub record Passed (text : List ℕ) (number : ℕ) (g : Grammar) (rs : List Read
 pub data Indexes (text : List ℕ) (number room : ℕ) : IndexAnswer → List ℕ → Type 0 where
   -- 0: accepted; the messages' index table, and then zeros
   accepted : (g : Grammar) (rs : List Reading) → Passed text number g rs → size_for (length rs) ≤ room
-      → Indexes text number room (Accepted (table_size (size_for (length rs)))) (table_of rs ++ replicate (room - size_for (length rs)) 0)
+      → Indexes text number room (Ok (table_size (size_for (length rs)))) (table_of rs ++ replicate (room - size_for (length rs)) 0)
   -- 1 to 9: zeros only
-  refused : {refusal : Refusal} → Refuses text number refusal → Indexes text number room (Refused refusal) (replicate room 0)
+  refused : {refusal : Refusal} → Refuses text number refusal → Indexes text number room (Err (Refused refusal)) (replicate room 0)
   -- 10: lent table too small; zeros only
   table_too_small : (g : Grammar) (rs : List Reading) → Passed text number g rs → room < size_for (length rs)
-      → Indexes text number room (TableTooSmall (table_size (size_for (length rs)))) (replicate room 0)
+      → Indexes text number room (Err (TooSmall (table_size (size_for (length rs))))) (replicate room 0)

@@ -1,16 +1,15 @@
 -- Samples of bundles: those of the requirements, and some for each rule of the index, as one list under one claim.
 -- Assumes nothing.
-use Rattle.std.specs.Prelude.{List, [], ◌∷◌, ◌++◌, ℕ, ◌-◌, length, replicate}
+use Rattle.std.specs.Prelude.{List, [], ◌∷◌, ◌++◌, ℕ, ◌-◌, length, replicate, Ok, Err}
+use Rattle.output.specs.declared.CallError.TheVariants.{Refused, TooSmall}
 use Rattle.base_64.specs.Lists.{All}
 use Rattle.grammar.specs.Samples.{begin_a, end_b, around, M, unended_m, labelled}
 use Rattle.reading.specs.Answers.{offset}
 use Rattle.reading.specs.Rows.{Row, RowHolds, row}
 use Rattle.reading.specs.declared.Refusal.{Refusal}
 use Rattle.reading.specs.declared.Refusal.TheVariants.{BadOpening, BadClosing, LabelsDiffer, SpareBits}
-use Rattle.indexing.specs.Answers.{table_size}
+use Rattle.indexing.specs.Answers.{table_size, IndexAnswer}
 use Rattle.indexing.specs.Meaning.{Indexes}
-use Rattle.indexing.specs.declared.IndexAnswer.{IndexAnswer}
-use Rattle.indexing.specs.declared.IndexAnswer.TheVariants.{Accepted, Refused, TableTooSmall}
 
 -- What a row says of a text under a grammar: this whole table; a refusal; or that so many numbers are needed.
 pub data Outcome : Type 0 where
@@ -23,9 +22,9 @@ abbrev pub room : ℕ
 room = 14
 
 abbrev pub answer_for : Outcome → IndexAnswer
-answer_for (accepted table) = Accepted (table_size (length table))
-answer_for (refused refusal) = Refused refusal
-answer_for (needs n) = TableTooSmall (table_size n)
+answer_for (accepted table) = Ok (table_size (length table))
+answer_for (refused refusal) = Err (Refused refusal)
+answer_for (needs n) = Err (TooSmall (table_size n))
 
 abbrev pub table_for : Outcome → List ℕ
 table_for (accepted table) = table ++ replicate (room - length table) 0

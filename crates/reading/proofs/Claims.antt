@@ -8,13 +8,12 @@ use Rattle.grammar.specs.Message.{Reading, data_of}
 use Rattle.grammar.specs.Starts.{Parse}
 use Rattle.grammar.specs.declared.Grammar.{Grammar}
 use Rattle.grammar.proofs.LineEnds.{some_ends}
-use Rattle.reading.specs.Answers.{span, refusal_number, refusal_place, number_of, place_of, size_of, label_offset_of, label_length_of}
+use Rattle.reading.specs.Answers.{span, refusal_number, refusal_place, number_of, place_of, size_of, label_offset_of, label_length_of, ReadAnswer}
 use Rattle.reading.specs.Meaning as rows
 use Rattle.reading.specs.Meaning.{label_start, Admitted, Parsed, Passed, Broken, Reads, GrammarFails, NotAdmitted, MessageFails}
 use Rattle.reading.specs.Read.{read_of, output_of, label_of}
 use Rattle.reading.specs.Label.{label_span_of}
 use Rattle.reading.specs.Claims.{AnswersZero, Readable, ZeroExactly, LabelExactly, GrammarRefusalNumber, PlaceExactly}
-use Rattle.reading.specs.declared.ReadAnswer.{ReadAnswer}
 use Rattle.reading.specs.declared.Refusal.{Refusal}
 use Rattle.reading.specs.declared.Span.{Span}
 use Rattle.reading.proofs.Whole.{front_same}

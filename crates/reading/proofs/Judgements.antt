@@ -25,15 +25,14 @@ use Rattle.machine.specs.declared.Part.{Part}
 use Rattle.machine.specs.declared.Part.TheVariants as part
 use Rattle.machine.proofs.Parts.{rank}
 use Rattle.reading.specs.Limits.{label_limit}
-use Rattle.reading.specs.Answers.{offset, byte_count, family}
+use Rattle.reading.specs.Answers.{offset, byte_count}
 use Rattle.reading.specs.Meaning as rows
 use Rattle.reading.specs.Meaning.{label_start, body_start, closing_start, closing_label_start, Sound, GrammarFails, MessageFails}
 use Rattle.reading.specs.Data.{spare_of}
 use Rattle.reading.specs.Ends.{ends_in, counted_style}
-use Rattle.reading.specs.Read.{layout_of, grammar_refusal, counts_fit, spare_asked, spare_clear, judged_parts}
+use Rattle.reading.specs.Read.{Judgement, layout_of, grammar_refusal, counts_fit, spare_asked, spare_clear, judged_parts}
 use Rattle.reading.specs.declared.Found.{Found}
-use Rattle.reading.specs.declared.Judgement.{Judgement}
-use Rattle.reading.specs.declared.Judgement.TheVariants as judgement
+use Rattle.std.specs.Prelude.{Ok, Err}
 use Rattle.reading.specs.declared.Refusal.{Refusal}
 use Rattle.reading.specs.declared.Refusal.TheVariants.{BadOpening, BadBody, BadClosing, LabelTooLong, LabelsDiffer, BadCounts, SpareBits}
 use Rattle.reading.proofs.Tallies.{last_index, tally_of, LastCharacter, last_character, last_index_lem, spare_text}
@@ -47,16 +46,16 @@ spare_test g cs = spare_asked g (eqb (spare_bits (values_of cs)) 0)
 
 abbrev pub reading_found : ℕ → Reading → Found
 reading_found from r =
-    record { size = byte_count (length (data_of r)); label = (reading_layout from r).opened; family = family (family_of r.opening_label) }
+    record { size = byte_count (length (data_of r)); label = (reading_layout from r).opened; family = family_of r.opening_label }
 
 abbrev pub sound_reading : ℕ → Reading → Judgement
-sound_reading from r = judgement.Sound (reading_layout from r) (reading_found from r) (counted_style (ends_in (text_of r)))
+sound_reading from r = Ok record { layout = reading_layout from r; found = reading_found from r; style = counted_style (ends_in (text_of r)) }
 
 abbrev pub judged_reading : Grammar → ℕ → Reading → Judgement
 judged_reading g from r =
     cond
     (ltb label_limit (length r.opening_label))
-    (judgement.Refused (LabelTooLong (offset (from + label_start r))))
+    (Err (LabelTooLong (offset (from + label_start r))))
     (cond
     (same_bytes r.opening_label r.closing_label)
     (cond
@@ -64,9 +63,9 @@ judged_reading g from r =
     (cond
     (spare_test g (characters r.body))
     (sound_reading from r)
-    (judgement.Refused (SpareBits (offset (from + body_start r + last_index r.body)))))
-    (judgement.Refused (BadCounts (offset (from + closing_start r)))))
-    (judgement.Refused (LabelsDiffer (offset (from + closing_label_start r)))))
+    (Err (SpareBits (offset (from + body_start r + last_index r.body)))))
+    (Err (BadCounts (offset (from + closing_start r)))))
+    (Err (LabelsDiffer (offset (from + closing_label_start r)))))
 
 -- The spare bits that the last alphabet character shows are those of the characters.
 spare_agrees : (front : List ℕ) (r : Reading) (back : List ℕ)
@@ -91,7 +90,7 @@ parts_judged g front r back =
 
 pub data Verdict (g : Grammar) (from : ℕ) (r : Reading) : Judgement → Type 0 where
   sound : Sound g r → Verdict g from r (sound_reading from r)
-  fails : {refusal : Refusal} → MessageFails g from r refusal → Verdict g from r (judgement.Refused refusal)
+  fails : {refusal : Refusal} → MessageFails g from r refusal → Verdict g from r (Err refusal)
 
 -- Spare bits are zero as the grammar asks exactly where the test says so.
 spare_test_true : (g : Grammar) (cs : List ℕ) → spare_test g cs ≡ true → message.SpareBits g cs
@@ -135,12 +134,12 @@ reading_judged g from r =
     go : (a : Bool) → ltb label_limit (length r.opening_label) ≡ a → (b : Bool) → same_bytes r.opening_label r.closing_label ≡ b → (c : Bool)
         → counts_fit (length (characters r.body)) (pad_count r.body) ≡ c → (d : Bool) → spare_test g (characters r.body) ≡ d
         → Verdict g from r
-        (cond a (judgement.Refused (LabelTooLong (offset (from + label_start r))))
+        (cond a (Err (LabelTooLong (offset (from + label_start r))))
         (cond b
         (cond c
-        (cond d (sound_reading from r) (judgement.Refused (SpareBits (offset (from + body_start r + last_index r.body)))))
-        (judgement.Refused (BadCounts (offset (from + closing_start r)))))
-        (judgement.Refused (LabelsDiffer (offset (from + closing_label_start r))))))
+        (cond d (sound_reading from r) (Err (SpareBits (offset (from + body_start r + last_index r.body)))))
+        (Err (BadCounts (offset (from + closing_start r)))))
+        (Err (LabelsDiffer (offset (from + closing_label_start r))))))
     go true ea b eb c ec d ed = fails (rows.label_too_long (ltb-true _ _ ea))
     go false ea false eb c ec d ed = fails (rows.labels_differ (ltb-false _ _ ea) (same_false _ _ eb))
     go false ea true eb false ec d ed = fails (rows.bad_counts (ltb-false _ _ ea) (same_true _ _ eb) (test_refutes (counts_fit_test _ _) ec))
@@ -171,7 +170,7 @@ unpassed true f n = absurd (n (f refl))
 unpassed false f n = refl
 
 pub fails_judged : (g : Grammar) (from : ℕ) (r : Reading) (refusal : Refusal) → MessageFails g from r refusal
-    → judged_reading g from r ≡ judgement.Refused refusal
+    → judged_reading g from r ≡ Err refusal
 fails_judged g from r refusal (rows.label_too_long h) = rw (lt-ltb label_limit (length r.opening_label) h)
 fails_judged g from r refusal (rows.labels_differ s d) =
     rw (le-ltb label_limit (length r.opening_label) s, different r.opening_label r.closing_label d)

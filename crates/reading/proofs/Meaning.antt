@@ -16,34 +16,29 @@ use Rattle.grammar.specs.Starts.{LongestStart}
 use Rattle.grammar.specs.declared.LineEnding.{LineEnding}
 use Rattle.grammar.specs.declared.Grammar.{Grammar}
 use Rattle.grammar.specs.declared.Grammar.TheVariants as grammar
-use Rattle.grammar.specs.declared.Numbered.{Numbered}
-use Rattle.grammar.specs.declared.Numbered.TheVariants.{Known, Unknown}
+use Rattle.std.specs.Prelude.{Option, Some, None, Ok, Err}
+use Rattle.output.specs.declared.CallError.TheVariants as error
 use Rattle.grammar.proofs.LineEnds.{some_ends}
 use Rattle.grammar.proofs.Message.{reading_unique}
-use Rattle.grammar.specs.declared.LineStyle.{LineStyle}
 use Rattle.machine.proofs.Machine.{part_of}
 use Rattle.machine.specs.declared.Part.{Part}
 use Rattle.reading.specs.Limits.{text_limit}
 use Rattle.reading.specs.Meaning as rows
 use Rattle.reading.specs.Meaning.{label_start, Admitted, Parsed, Broken, Passed, Refuses, found_of, Reads, HandsBack, HandsBackPlace, HandsBackPart}
 use Rattle.reading.specs.Parts.{OwnPart}
-use Rattle.reading.specs.Answers.{span}
+use Rattle.reading.specs.Answers.{span, ReadAnswer}
 use Rattle.reading.specs.Label.{label_span, label_span_of}
 use Rattle.reading.specs.Ends.{ends_in, counted_style}
-use Rattle.reading.specs.Read.{spanned, layout_of, Lies, grammar_refusal, is_whole, judged_parts, judged_by, judge_of, answered, read_of, written, output_of, label_in, label_of}
+use Rattle.reading.specs.Read.{Judgement, spanned, layout_of, TallyFits, Lies, grammar_refusal, is_whole, judged_parts, judged_scan, judged_by, judge_of, answered, read_of, written, output_of, label_in, label_of}
 use Rattle.reading.specs.declared.Found.{Found}
-use Rattle.reading.specs.declared.Judgement.{Judgement}
-use Rattle.reading.specs.declared.Judgement.TheVariants as judgement
-use Rattle.reading.specs.declared.Layout.{Layout}
-use Rattle.reading.specs.declared.ReadAnswer.{ReadAnswer}
-use Rattle.reading.specs.declared.ReadAnswer.TheVariants as answer
 use Rattle.reading.specs.declared.Refusal.{Refusal}
+use Rattle.reading.specs.declared.Sound.{Sound}
 use denote.Ref.{Bor}
 use Rattle.reading.specs.declared.Span.{Span}
 use Rattle.reading.proofs.Parts.{own_length, own_unique}
 use Rattle.reading.proofs.Ends.{ends_found}
 use Rattle.reading.proofs.Tallies.{tally_of}
-use Rattle.reading.proofs.Places.{TallyFits, reading_fits, reading_layout, label_part, body_part, text_length, opening_length, closing_length}
+use Rattle.reading.proofs.Places.{reading_fits, reading_layout, label_part, body_part, text_length, opening_length, closing_length}
 use Rattle.reading.proofs.Judgements as judgements
 use Rattle.reading.proofs.Judgements.{reading_found, sound_reading, judged_reading, parts_judged, Verdict, reading_judged, fails_judged, sound_judged, Tells, part_fails, fails_part}
 use Rattle.reading.proofs.Whole.{scanned, WholeReading, whole_reading, parse_whole, scan_longest, scan_tells}
@@ -67,14 +62,14 @@ judge_reading text number g r p =
 
 -- The judgement of a text within the limit that is none of the grammar.
 judge_broken : (text : List ℕ) (number : ℕ) (g : Grammar) → Admitted text number g → is_whole (scanned g text) (length text) ≡ false
-    → judge_of text number ≡ judgement.Refused (grammar_refusal (part_of (scanned g text).phase) (scanned g text).length)
+    → judge_of text number ≡ Err (grammar_refusal (part_of (scanned g text).phase) (scanned g text).length)
 judge_broken text number g a w = ap (λ n. judged_by n text) a.known ∙ rw (le-ltb text_limit (length text) a.short, w)
 
 -- ---- What each judgement means
 
 pub data Judged (text : List ℕ) (number : ℕ) : Judgement → Type 0 where
   sound : (g : Grammar) (r : Reading) → Passed text number g r → Judged text number (sound_reading 0 r)
-  refused : {refusal : Refusal} → Refuses text number refusal → Judged text number (judgement.Refused refusal)
+  refused : {refusal : Refusal} → Refuses text number refusal → Judged text number (Err refusal)
 
 verdict_judged : (text : List ℕ) (number : ℕ) (g : Grammar) (r : Reading) → Parsed text number g r → (j : Judgement) → Verdict g 0 r j → Judged text number j
 verdict_judged text number g r p j (judgements.sound s) = sound g r record { parsed = p; sound = s }
@@ -83,7 +78,7 @@ verdict_judged text number g r p j (judgements.fails f) = refused (rows.message_
 pub judge_means : (text : List ℕ) (number : ℕ) → Judged text number (judge_of text number)
 judge_means text number = by_number (grammar_of number) refl
   where
-    known : (g : Grammar) → grammar_of number ≡ Known g → (a : Bool) → ltb text_limit (length text) ≡ a → (w : Bool)
+    known : (g : Grammar) → grammar_of number ≡ Some g → (a : Bool) → ltb text_limit (length text) ≡ a → (w : Bool)
         → is_whole (scanned g text) (length text) ≡ w → Judged text number (judge_of text number)
     known g e true long w ew = subst (Judged text number) (sym (ap (λ n. judged_by n text) e ∙ rw long)) (refused (rows.not_admitted (rows.text_too_long g e (ltb-true _ _ long))))
     known g e false short true ew =
@@ -101,9 +96,9 @@ judge_means text number = by_number (grammar_of number) refl
         record { admitted = a; none = λ p. true≢false (sym (parse_whole g text p) ∙ ew); longest = scan_longest g text }
         (part_fails g _ _ (part_of (scanned g text).phase) (scan_tells g text))))
 
-    by_number : (n : Numbered) → grammar_of number ≡ n → Judged text number (judge_of text number)
-    by_number Unknown e = subst (Judged text number) (sym (ap (λ n. judged_by n text) e)) (refused (rows.not_admitted (rows.unknown_grammar e)))
-    by_number (Known g) e = known g e (ltb text_limit (length text)) refl (is_whole (scanned g text) (length text)) refl
+    by_number : (n : Option Grammar) → grammar_of number ≡ n → Judged text number (judge_of text number)
+    by_number None e = subst (Judged text number) (sym (ap (λ n. judged_by n text) e)) (refused (rows.not_admitted (rows.unknown_grammar e)))
+    by_number (Some g) e = known g e (ltb text_limit (length text)) refl (is_whole (scanned g text) (length text)) refl
 
 -- ---- Each row leaves one judgement only
 
@@ -118,29 +113,33 @@ longest_unique m n a b = go (ltb m n) refl (ltb n m) refl
 
 -- A broken text is refused at its longest start, by the part that was being read.
 judge_row : (text : List ℕ) (number : ℕ) (g : Grammar) (n : ℕ) → Broken text number g n
-    → (judge_of text number ≡ judgement.Refused (grammar_refusal (part_of (scanned g text).phase) n)) × (n ≡ (scanned g text).length)
+    → (judge_of text number ≡ Err (grammar_refusal (part_of (scanned g text).phase) n)) × (n ≡ (scanned g text).length)
 judge_row text number g n b = go (is_whole (scanned g text) (length text)) refl
   where
     same : n ≡ (scanned g text).length
     same = longest_unique n (scanned g text).length b.longest (scan_longest g text)
 
     go : (w : Bool) → is_whole (scanned g text) (length text) ≡ w
-        → (judge_of text number ≡ judgement.Refused (grammar_refusal (part_of (scanned g text).phase) n)) × (n ≡ (scanned g text).length)
+        → (judge_of text number ≡ Err (grammar_refusal (part_of (scanned g text).phase) n)) × (n ≡ (scanned g text).length)
     go true e =
         let q : WholeReading g text = whole_reading g text e in
         absurd (b.none record { reading = q.reading; joined = q.joined; shape = q.shape })
     go false e =
-        (judge_broken text number g b.admitted e ∙ ap (λ k. judgement.Refused (grammar_refusal (part_of (scanned g text).phase) k)) (sym same), same)
+        (judge_broken text number g b.admitted e ∙ ap (λ k. Err (grammar_refusal (part_of (scanned g text).phase) k)) (sym same), same)
 
-pub refuses_judge : (text : List ℕ) (number : ℕ) (refusal : Refusal) → Refuses text number refusal → judge_of text number ≡ judgement.Refused refusal
+pub refuses_judge : (text : List ℕ) (number : ℕ) (refusal : Refusal) → Refuses text number refusal → judge_of text number ≡ Err refusal
 refuses_judge text number refusal (rows.not_admitted (rows.unknown_grammar e)) = ap (λ n. judged_by n text) e
 refuses_judge text number refusal (rows.not_admitted (rows.text_too_long g e h)) =
     ap (λ n. judged_by n text) e ∙ rw (lt-ltb text_limit (length text) h)
 refuses_judge text number refusal (rows.grammar_fails g n b f) =
     let j = judge_row text number g n b in
     let q : Part = part_of (scanned g text).phase in
-    j.0 ∙ ap judgement.Refused (fails_part g (take n text) n q refusal (subst (λ k. Tells g (take k text) q) (sym j.1) (scan_tells g text)) f)
+    j.0 ∙ ap Err (fails_part g (take n text) n q refusal (subst (λ k. Tells g (take k text) q) (sym j.1) (scan_tells g text)) f)
 refuses_judge text number refusal (rows.message_fails g r p f) = judge_reading text number g r p ∙ fails_judged g 0 r refusal f
+
+-- A text that passes the checks 1 and 2 is judged by its scan.
+pub admitted_judge : (text : List ℕ) (number : ℕ) (g : Grammar) → Admitted text number g → judge_of text number ≡ judged_scan g text (scanned g text)
+admitted_judge text number g a = ap (λ n. judged_by n text) a.known ∙ rw (le-ltb text_limit (length text) a.short)
 
 pub passed_judge : (text : List ℕ) (number : ℕ) (g : Grammar) (r : Reading) → Passed text number g r
     → judge_of text number ≡ sound_reading 0 r
@@ -159,16 +158,16 @@ found_in_lem r = rw zero-add
 
 -- The answer and the output of a judgement that passed.
 passed_answer : (text : List ℕ) (r : Reading) (room : ℕ) → text ≡ text_of r → length (data_of r) ≤ room → (ss : List LineEnding) → LineEnds text ss
-    → (answered (sound_reading 0 r) room ≡ answer.Accepted (found_of r) (style_of ss))
+    → (answered (sound_reading 0 r) room ≡ Ok record { found = found_of r; style = style_of ss })
     × (written (sound_reading 0 r) text room ≡ data_of r ++ replicate (room - length (data_of r)) 0)
 passed_answer text r room e h ss l =
     let found : counted_style (ends_in (text_of r)) ≡ style_of ss = ap (λ t. counted_style (ends_in t)) (sym e) ∙ ends_found l in
-    (rw (le-ltb room (length (data_of r)) h) (λ i. answer.Accepted (found_in_lem r i) (found i)), rw (le-ltb room (length (data_of r)) h, data_in text r e))
+    (rw (le-ltb room (length (data_of r)) h) (λ i. Ok record { found = found_in_lem r i; style = found i }), rw (le-ltb room (length (data_of r)) h, data_in text r e))
 
 small_answer : (text : List ℕ) (r : Reading) (room : ℕ) → room < length (data_of r)
-    → (answered (sound_reading 0 r) room ≡ answer.OutputTooSmall (found_of r))
+    → (answered (sound_reading 0 r) room ≡ Err (error.TooSmall (found_of r)))
     × (written (sound_reading 0 r) text room ≡ replicate room 0)
-small_answer text r room h = (rw (lt-ltb room (length (data_of r)) h) (ap answer.OutputTooSmall (found_in_lem r)), rw (lt-ltb room (length (data_of r)) h))
+small_answer text r room h = (rw (lt-ltb room (length (data_of r)) h) (ap (λ (f : Found). Err (error.TooSmall f)) (found_in_lem r)), rw (lt-ltb room (length (data_of r)) h))
 
 -- What `read` is defined to answer and to write is what the rows say.
 pub read_means : (text : List ℕ) (number room : ℕ) → Reads text number room (read_of text number room) (output_of text number room)
@@ -261,8 +260,8 @@ pub label_spanned : (text : List ℕ) (number : ℕ) → spanned text (label_spa
 label_spanned text number = go (judge_of text number)
   where
     go : (j : Judgement) → spanned text (label_span j) ≡ label_in j text
-    go (judgement.Refused r) = refl
-    go (judgement.Sound l found style) = refl
+    go (Err r) = refl
+    go (Ok s) = refl
 
 -- No label starts at 0, so only a refused text has its part there.
 pub zero_refused : (text : List ℕ) (number at n : ℕ) → HandsBackPlace text number at n → at ≡ 0 → (refusal : Refusal) × Refuses text number refusal
@@ -282,13 +281,15 @@ hands_back_place text number at n (rows.empty {refusal} f _) =
 
 -- ---- What the code has to know of a judgement that passed
 
-pub sound_fits : (text : List ℕ) (number : ℕ) (l : Layout) (found : Found) (style : LineStyle) → judge_of text number ≡ judgement.Sound l found style
-    → Lies (length text) l × (l.body.at.0 + l.body.length ≤ length text) × (found.size.0 ≡ length (decode (characters (spanned text l.body))))
-sound_fits text number l found style e = go l found style (subst (Judged text number) e (judge_means text number))
+pub sound_fits : (text : List ℕ) (number : ℕ) (s : Sound) → judge_of text number ≡ Ok s
+    → Lies (length text) s.layout × (s.layout.body.at.0 + s.layout.body.length ≤ length text)
+    × (s.found.size.0 ≡ length (decode (characters (spanned text s.layout.body))))
+sound_fits text number s e = go s (subst (Judged text number) e (judge_means text number))
   where
-    go : (l : Layout) (found : Found) (style : LineStyle) → Judged text number (judgement.Sound l found style)
-        → Lies (length text) l × (l.body.at.0 + l.body.length ≤ length text) × (found.size.0 ≡ length (decode (characters (spanned text l.body))))
-    go l found style (sound g r p) =
+    go : (s : Sound) → Judged text number (Ok s)
+        → Lies (length text) s.layout × (s.layout.body.at.0 + s.layout.body.length ≤ length text)
+        × (s.found.size.0 ≡ length (decode (characters (spanned text s.layout.body))))
+    go s (sound g r p) =
         let n : length text ≡ length (text_of r) = ap length p.parsed.joined in
         let t = text_length r in
         let o = opening_length r.opening_label in
@@ -296,11 +297,12 @@ sound_fits text number l found style e = go l found style (subst (Judged text nu
         (omega arith, omega arith, ap length (sym (data_in text r p.parsed.joined)))
 
 -- The same by the grammar, whichever number it has.
-pub known_fits : (g : Grammar) (text : List ℕ) (l : Layout) (found : Found) (style : LineStyle) → judged_by (Known g) text ≡ judgement.Sound l found style
-    → Lies (length text) l × (l.body.at.0 + l.body.length ≤ length text) × (found.size.0 ≡ length (decode (characters (spanned text l.body))))
-known_fits grammar.Lax text l found style e = sound_fits text 1 l found style e
-known_fits grammar.Standard text l found style e = sound_fits text 2 l found style e
-known_fits grammar.Strict text l found style e = sound_fits text 3 l found style e
+pub known_fits : (g : Grammar) (text : List ℕ) (s : Sound) → judged_by (Some g) text ≡ Ok s
+    → Lies (length text) s.layout × (s.layout.body.at.0 + s.layout.body.length ≤ length text)
+    × (s.found.size.0 ≡ length (decode (characters (spanned text s.layout.body))))
+known_fits grammar.Lax text s e = sound_fits text 1 s e
+known_fits grammar.Standard text s e = sound_fits text 2 s e
+known_fits grammar.Strict text s e = sound_fits text 3 s e
 
 -- What the code has to know of a scan that has read a whole text of the grammar.
 pub whole_fits : (g : Grammar) (text : List ℕ) → is_whole (scanned g text) (length text) ≡ true → TallyFits (length text) (scanned g text).tally

@@ -10,7 +10,7 @@ use Rattle.grammar.specs.Message.{Reading, text_of}
 use Rattle.reading.specs.Answers.{offset, span}
 use Rattle.reading.specs.Meaning.{label_start, body_start, closing_start, closing_label_start}
 use Rattle.reading.specs.Scan.{tally}
-use Rattle.reading.specs.Read.{spanned, layout_of}
+use Rattle.reading.specs.Read.{spanned, layout_of, TallyFits}
 use Rattle.reading.specs.declared.Layout.{Layout}
 use Rattle.reading.specs.declared.EndCounts.{EndCounts}
 use Rattle.reading.specs.declared.Tally.{Tally}
@@ -104,14 +104,6 @@ closing_label_part front r back =
 pub text_length : (r : Reading)
     → length (text_of r) ≡ length r.before + length (opening r.opening_label) + length r.body + length (closing r.closing_label) + length r.after
 text_length r = simp length-append (omega arith)
-
--- A tally within so many bytes: what the code has to know of a message that it has scanned.
-pub record TallyFits (n : ℕ) (t : Tally) : Type 0 where
-  pub opening : length begin + length hyphens ≤ t.opening
-  pub closing : length end + length hyphens ≤ t.closing
-  pub sum : t.before + t.opening + t.body + t.closing ≤ n
-  pub characters : t.characters ≤ t.body
-  pub last : t.last ≤ t.body
 
 pub reading_fits : (r : Reading) → TallyFits (length (text_of r)) (tally_of r)
 reading_fits r =

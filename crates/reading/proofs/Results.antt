@@ -8,12 +8,11 @@ use Rattle.grammar.specs.Message.{Reading, data_of}
 use Rattle.grammar.specs.LineEnds.{LineEnds, style_of}
 use Rattle.grammar.specs.declared.LineEnding.{LineEnding}
 use Rattle.grammar.specs.declared.Grammar.{Grammar}
-use Rattle.reading.specs.Answers.{refusal_number, number_of}
+use Rattle.reading.specs.Answers.{refusal_number, number_of, ReadAnswer}
 use Rattle.reading.specs.Meaning as rows
 use Rattle.reading.specs.Meaning.{Passed, found_of, Reads}
 use Rattle.reading.specs.Read.{read_of, output_of, label_in, label_of}
-use Rattle.reading.specs.declared.ReadAnswer.{ReadAnswer}
-use Rattle.reading.specs.declared.ReadAnswer.TheVariants.{Accepted}
+use Rattle.std.specs.Prelude.{Ok}
 use Rattle.reading.specs.declared.Refusal.{Refusal}
 use Rattle.reading.specs.declared.Refusal.TheVariants.{UnknownGrammar, TextTooLong, BadOpening, BadBody, BadClosing, LabelTooLong, LabelsDiffer, BadCounts, SpareBits}
 use Rattle.reading.proofs.Meaning.{read_means, reads_read, passed_judge, label_in_lem}
@@ -33,7 +32,7 @@ refusal_some (SpareBits at) e = omega (arith, e)
 -- Given room, the answer and the output of a text that passed, and its label.
 pub passed_read : (text : List ℕ) (number room : ℕ) (g : Grammar) (r : Reading) → Passed text number g r → length (data_of r) ≤ room
     → (ss : List LineEnding) → LineEnds text ss
-    → (read_of text number room ≡ Accepted (found_of r) (style_of ss)) × (output_of text number room ≡ data_of r ++ replicate (room - length (data_of r)) 0)
+    → (read_of text number room ≡ Ok record { found = found_of r; style = style_of ss }) × (output_of text number room ≡ data_of r ++ replicate (room - length (data_of r)) 0)
 passed_read text number room g r p h ss l =
     let same = reads_read text number room _ _ (rows.accepted g r p h ss l) in
     (sym same.0, sym same.1)

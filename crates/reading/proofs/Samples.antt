@@ -10,20 +10,22 @@ use Rattle.base_64.specs.Lists.{All, same_bytes}
 use Rattle.base_64.specs.Alphabet.{alphabet, place_in, value_of}
 use Rattle.base_64.proofs.Tests.{both, both_left, both_right}
 use Rattle.base_64.proofs.Lists.{same_true}
-use Rattle.grammar.specs.Families.{family_in}
+use Rattle.grammar.specs.Families.{family_told, family_in}
 use Rattle.grammar.specs.Grammars.{lax_number, standard_number, strict_number}
 use Rattle.grammar.specs.LineEnds.{style_number}
 use Rattle.grammar.specs.Message.{characters, pad_count}
+use Rattle.grammar.specs.declared.Family.{Family}
+use Rattle.grammar.specs.declared.Family.TheVariants.{Certificate, X509Crl, CertificateRequest, Pkcs7, Cms, PrivateKey, EncryptedPrivateKey, AttributeCertificate, PublicKey}
 use Rattle.grammar.specs.declared.LineEnding.TheVariants.{Lf, CrLf, Cr}
 use Rattle.grammar.specs.declared.LineStyle.{LineStyle}
 use Rattle.grammar.specs.declared.LineStyle.TheVariants.{NoLineEnd, Only, Mixed}
-use Rattle.reading.specs.Answers.{offset, byte_count, span, family, refusal_number, refusal_place, number_of, place_of, size_of, label_offset_of, label_length_of, label_family_of, line_style_of}
+use Rattle.reading.specs.Answers.{offset, byte_count, span, refusal_number, refusal_place, number_of, place_of, size_of, label_offset_of, label_length_of, label_family_of, line_style_of, ReadAnswer}
 use Rattle.reading.specs.Read.{read_of, output_of}
 use Rattle.reading.specs.Rows.{Row, RowHolds, Outcome, room, answer_for, output_for, Holds}
 use Rattle.reading.specs.Samples.{rows, split_pads, spare_bits, line_ends, families, Samples}
 use Rattle.reading.specs.declared.Found.{Found}
-use Rattle.reading.specs.declared.ReadAnswer.{ReadAnswer}
-use Rattle.reading.specs.declared.ReadAnswer.TheVariants.{Accepted, Refused, OutputTooSmall}
+use Rattle.std.specs.Prelude.{Option, Some, None, Ok, Err}
+use Rattle.output.specs.declared.CallError.TheVariants.{Refused, TooSmall}
 use Rattle.reading.specs.declared.Refusal.{Refusal}
 use Rattle.reading.specs.declared.Refusal.TheVariants.{UnknownGrammar, TextTooLong, BadOpening, BadBody, BadClosing, LabelTooLong, LabelsDiffer, BadCounts, SpareBits}
 use Rattle.reading.proofs.Meaning.{read_means}
@@ -60,8 +62,33 @@ refusal_settled accepted small refuse (SpareBits at) = refl
 abbrev code_of : ReadAnswer → List ℕ
 code_of a = number_of a ∷ place_of a ∷ size_of a ∷ label_offset_of a ∷ label_length_of a ∷ label_family_of a ∷ line_style_of a ∷ []
 
+abbrev family_by : ℕ → Option Family
+family_by n =
+    cond (eqb n 0) None
+    (cond (eqb n 1) (Some Certificate)
+    (cond (eqb n 2) (Some X509Crl)
+    (cond (eqb n 3) (Some CertificateRequest)
+    (cond (eqb n 4) (Some Pkcs7)
+    (cond (eqb n 5) (Some Cms)
+    (cond (eqb n 6) (Some PrivateKey)
+    (cond (eqb n 7) (Some EncryptedPrivateKey)
+    (cond (eqb n 8) (Some AttributeCertificate)
+    (Some PublicKey)))))))))
+
+family_coded : (family : Option Family) → family_by (family_told family) ≡ family
+family_coded None = refl
+family_coded (Some Certificate) = refl
+family_coded (Some X509Crl) = refl
+family_coded (Some CertificateRequest) = refl
+family_coded (Some Pkcs7) = refl
+family_coded (Some Cms) = refl
+family_coded (Some PrivateKey) = refl
+family_coded (Some EncryptedPrivateKey) = refl
+family_coded (Some AttributeCertificate) = refl
+family_coded (Some PublicKey) = refl
+
 abbrev found_by : List ℕ → Found
-found_by l = record { size = byte_count (get_or l 2 0); label = span (get_or l 3 0) (get_or l 4 0); family = family (get_or l 5 0) }
+found_by l = record { size = byte_count (get_or l 2 0); label = span (get_or l 3 0) (get_or l 4 0); family = family_by (get_or l 5 0) }
 
 abbrev style_by : ℕ → LineStyle
 style_by n = cond (eqb n 0) NoLineEnd (cond (eqb n 1) (Only Lf) (cond (eqb n 2) (Only CrLf) (cond (eqb n 3) (Only Cr) Mixed)))
@@ -74,12 +101,15 @@ style_coded (Only Cr) = refl
 style_coded Mixed = refl
 
 abbrev answer_by : List ℕ → ReadAnswer
-answer_by l = settled (Accepted (found_by l) (style_by (get_or l 6 0))) (OutputTooSmall (found_by l)) Refused (get_or l 0 0) (get_or l 1 0)
+answer_by l = settled (Ok record { found = found_by l; style = style_by (get_or l 6 0) }) (Err (TooSmall (found_by l))) (λ r. Err (Refused r)) (get_or l 0 0) (get_or l 1 0)
+
+found_coded : (f : Found) → record { size = f.size; label = f.label; family = family_by (family_told f.family) } ≡ f
+found_coded f = λ i. record { size = f.size; label = f.label; family = family_coded f.family i }
 
 answer_coded : (a : ReadAnswer) → answer_by (code_of a) ≡ a
-answer_coded (Accepted found style) = ap (Accepted found) (style_coded style)
-answer_coded (OutputTooSmall found) = refl
-answer_coded (Refused r) = refusal_settled _ _ Refused r
+answer_coded (Ok a) = λ i. Ok record { found = found_coded a.found i; style = style_coded a.style i }
+answer_coded (Err (TooSmall found)) = λ i. Err (TooSmall (found_coded found i))
+answer_coded (Err (Refused r)) = refusal_settled _ _ (λ q. Err (Refused q)) r
 
 answer_unique : (a b : ReadAnswer) → code_of a ≡ code_of b → a ≡ b
 answer_unique a b e = sym (answer_coded a) ∙ ap answer_by e ∙ answer_coded b

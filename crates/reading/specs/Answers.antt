@@ -1,15 +1,17 @@
 -- The numbers a caller may get, with the place, the size, the label's position and family and the style of the line ends that
 -- each answer carries. Assumes nothing.
-use Rattle.std.specs.Prelude.{ℕ}
+use Rattle.std.specs.Prelude.{ℕ, Result, Ok, Err}
 use Rattle.base_64.specs.declared.ByteCount.{ByteCount}
+use Rattle.grammar.specs.Families.{family_told}
 use Rattle.grammar.specs.LineEnds.{style_number}
-use Rattle.grammar.specs.declared.Family.{Family}
 use Rattle.grammar.specs.declared.TextOffset.{TextOffset}
+use Rattle.output.specs.declared.CallError.{CallError}
+use Rattle.output.specs.declared.CallError.TheVariants.{Refused, TooSmall}
+use Rattle.reading.specs.declared.Accepted.{Accepted}
+use Rattle.reading.specs.declared.Found.{Found}
 use Rattle.reading.specs.declared.Span.{Span}
 use Rattle.reading.specs.declared.Refusal.{Refusal}
 use Rattle.reading.specs.declared.Refusal.TheVariants.{UnknownGrammar, TextTooLong, BadOpening, BadBody, BadClosing, LabelTooLong, LabelsDiffer, BadCounts, SpareBits}
-use Rattle.reading.specs.declared.ReadAnswer.{ReadAnswer}
-use Rattle.reading.specs.declared.ReadAnswer.TheVariants.{Accepted, Refused, OutputTooSmall}
 
 -- An offset in a text and a count of decoded bytes.
 abbrev pub offset : ℕ → TextOffset
@@ -17,10 +19,6 @@ offset n = record { 0 = n }
 
 abbrev pub byte_count : ℕ → ByteCount
 byte_count n = record { 0 = n }
-
--- A family, by its number.
-abbrev pub family : ℕ → Family
-family n = record { 0 = n }
 
 -- A part of a text, by the offset where it starts and its bytes.
 abbrev pub span : ℕ → ℕ → Span
@@ -48,41 +46,45 @@ refusal_place (LabelsDiffer at) = at.0
 refusal_place (BadCounts at) = at.0
 refusal_place (SpareBits at) = at.0
 
+-- The answer of the read call.
+abbrev pub ReadAnswer : Type 0
+ReadAnswer = Result Accepted (CallError Refusal Found)
+
 abbrev pub number_of : ReadAnswer → ℕ
-number_of (Accepted found style) = 0
-number_of (Refused refusal) = refusal_number refusal
-number_of (OutputTooSmall found) = 10
+number_of (Ok accepted) = 0
+number_of (Err (Refused refusal)) = refusal_number refusal
+number_of (Err (TooSmall found)) = 10
 
 abbrev pub place_of : ReadAnswer → ℕ
-place_of (Accepted found style) = 0
-place_of (Refused refusal) = refusal_place refusal
-place_of (OutputTooSmall found) = 0
+place_of (Ok accepted) = 0
+place_of (Err (Refused refusal)) = refusal_place refusal
+place_of (Err (TooSmall found)) = 0
 
 -- What the result needs for 0 and 10, else zero.
 abbrev pub size_of : ReadAnswer → ℕ
-size_of (Accepted found style) = found.size.0
-size_of (Refused refusal) = 0
-size_of (OutputTooSmall found) = found.size.0
+size_of (Ok accepted) = accepted.found.size.0
+size_of (Err (Refused refusal)) = 0
+size_of (Err (TooSmall found)) = found.size.0
 
 -- The label's offset and length, both zero unless the answer is 0 or 10.
 abbrev pub label_offset_of : ReadAnswer → ℕ
-label_offset_of (Accepted found style) = found.label.at.0
-label_offset_of (Refused refusal) = 0
-label_offset_of (OutputTooSmall found) = found.label.at.0
+label_offset_of (Ok accepted) = accepted.found.label.at.0
+label_offset_of (Err (Refused refusal)) = 0
+label_offset_of (Err (TooSmall found)) = found.label.at.0
 
 abbrev pub label_length_of : ReadAnswer → ℕ
-label_length_of (Accepted found style) = found.label.length
-label_length_of (Refused refusal) = 0
-label_length_of (OutputTooSmall found) = found.label.length
+label_length_of (Ok accepted) = accepted.found.label.length
+label_length_of (Err (Refused refusal)) = 0
+label_length_of (Err (TooSmall found)) = found.label.length
 
 -- The number of the label's family; zero unless the answer is 0 or 10. (K6; no number of the requirements had it.)
 abbrev pub label_family_of : ReadAnswer → ℕ
-label_family_of (Accepted found style) = found.family.0
-label_family_of (Refused refusal) = 0
-label_family_of (OutputTooSmall found) = found.family.0
+label_family_of (Ok accepted) = family_told accepted.found.family
+label_family_of (Err (Refused refusal)) = 0
+label_family_of (Err (TooSmall found)) = family_told found.family
 
 -- The number of the style of the line ends; zero unless the answer is 0. (K7; no number of the requirements had it.)
 abbrev pub line_style_of : ReadAnswer → ℕ
-line_style_of (Accepted found style) = style_number style
-line_style_of (Refused refusal) = 0
-line_style_of (OutputTooSmall found) = 0
+line_style_of (Ok accepted) = style_number accepted.style
+line_style_of (Err (Refused refusal)) = 0
+line_style_of (Err (TooSmall found)) = 0

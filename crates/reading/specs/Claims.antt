@@ -1,10 +1,9 @@
 -- What demand 2 says of the read call and the label call, on the definitions that their promises equal. Assumes nothing.
-use Rattle.std.specs.Prelude.{◌≡◌, List, ◌++◌, ℕ, ◌-◌, ◌≤◌, length, take, drop, replicate}
+use Rattle.std.specs.Prelude.{◌≡◌, List, ◌++◌, ℕ, ◌-◌, ◌≤◌, length, take, drop, replicate, Some}
 use Rattle.grammar.specs.Grammars.{grammar_of}
 use Rattle.grammar.specs.Message.{Message}
 use Rattle.grammar.specs.Starts.{Parse}
 use Rattle.grammar.specs.declared.Grammar.{Grammar}
-use Rattle.grammar.specs.declared.Numbered.TheVariants.{Known}
 use Rattle.reading.specs.Limits.{text_limit, label_limit}
 use Rattle.reading.specs.Answers.{span, number_of, place_of, size_of, label_offset_of, label_length_of}
 use Rattle.reading.specs.Meaning.{label_start, Admitted, Broken, Refuses}
@@ -27,7 +26,7 @@ pub record AnswersZero (text : List ℕ) (number room at : ℕ) (label content :
 -- not over 64 bytes, the text is within the limit and the data fits.
 pub record Readable (text : List ℕ) (number room at : ℕ) (label content : List ℕ) : Type 0 where
   pub grammar : Grammar
-  pub known : grammar_of number ≡ Known grammar
+  pub known : grammar_of number ≡ Some grammar
   pub message : Message grammar text label content
   pub opens : at ≡ label_start message.reading
   pub short_label : length label ≤ label_limit

@@ -1,6 +1,6 @@
 -- What the numbers 0 to 10 of the read call mean, row by row in the requirements' order and in the grammars' relations.
 -- Assumes nothing.
-use Rattle.std.specs.Prelude.{◌≡◌, ◌≢◌, List, [], ◌∷◌, ◌++◌, ℕ, ◌+◌, ◌-◌, ◌≤◌, ◌<◌, length, take, drop, replicate}
+use Rattle.std.specs.Prelude.{◌≡◌, ◌≢◌, List, [], ◌∷◌, ◌++◌, ℕ, ◌+◌, ◌-◌, ◌≤◌, ◌<◌, length, take, drop, replicate, Some, None, Ok, Err}
 use Rattle.std.specs.Borrow.{Bor}
 use Rattle.base_64.specs.Lists.{All}
 use Rattle.base_64.specs.Alphabet.{AlphabetChar}
@@ -14,15 +14,13 @@ use Rattle.grammar.specs.Message.{Reading, text_of, Shape, characters, pad_count
 use Rattle.grammar.specs.Starts.{Parse, LongestStart, HasOpening, HasClosing}
 use Rattle.grammar.specs.declared.LineEnding.{LineEnding}
 use Rattle.grammar.specs.declared.Grammar.{Grammar}
-use Rattle.grammar.specs.declared.Numbered.TheVariants.{Known, Unknown}
+use Rattle.output.specs.declared.CallError.TheVariants.{Refused, TooSmall}
 use Rattle.reading.specs.Limits.{text_limit, label_limit}
-use Rattle.reading.specs.Answers.{offset, byte_count, span, family}
+use Rattle.reading.specs.Answers.{offset, byte_count, span, ReadAnswer}
 use Rattle.reading.specs.Parts.{OwnPart}
 use Rattle.reading.specs.declared.Found.{Found}
 use Rattle.reading.specs.declared.Refusal.{Refusal}
 use Rattle.reading.specs.declared.Refusal.TheVariants.{UnknownGrammar, TextTooLong, BadOpening, BadBody, BadClosing, LabelTooLong, LabelsDiffer, BadCounts, SpareBits}
-use Rattle.reading.specs.declared.ReadAnswer.{ReadAnswer}
-use Rattle.reading.specs.declared.ReadAnswer.TheVariants.{Accepted, Refused, OutputTooSmall}
 
 -- Where the parts of a reading start in its text.
 abbrev pub label_start : Reading → ℕ
@@ -39,7 +37,7 @@ closing_label_start r = closing_start r + length end
 
 -- Checks 1 and 2 pass: the number is that of a grammar, and the text is within the limit.
 pub record Admitted (text : List ℕ) (number : ℕ) (g : Grammar) : Type 0 where
-  pub known : grammar_of number ≡ Known g
+  pub known : grammar_of number ≡ Some g
   pub short : length text ≤ text_limit
 
 -- Checks 1 to 5 pass: the text has this reading under the grammar.
@@ -71,9 +69,9 @@ NoCharacter l = All (λ c. ¬ AlphabetChar c) l
 -- The rows 1 and 2.
 pub data NotAdmitted (text : List ℕ) (number : ℕ) : Refusal → Type 0 where
   -- 1: grammar number not 1, 2 or 3
-  unknown_grammar : grammar_of number ≡ Unknown → NotAdmitted text number UnknownGrammar
+  unknown_grammar : grammar_of number ≡ None → NotAdmitted text number UnknownGrammar
   -- 2: text over 16,777,216 bytes (K4; before it, "text over 65,536 bytes")
-  text_too_long : (g : Grammar) → grammar_of number ≡ Known g → text_limit < length text → NotAdmitted text number TextTooLong
+  text_too_long : (g : Grammar) → grammar_of number ≡ Some g → text_limit < length text → NotAdmitted text number TextTooLong
 
 -- The rows 3 to 5, of a message that was begun: its longest start, and the place where that ends.
 pub data GrammarFails (g : Grammar) (start : List ℕ) (place : ℕ) : Refusal → Type 0 where
@@ -114,19 +112,19 @@ found_of r =
     record {
       size = byte_count (length (data_of r));
       label = span (label_start r) (length r.opening_label);
-      family = family (family_of r.opening_label);
+      family = family_of r.opening_label;
     }
 
 -- The answer of the read call, and its output of `room` bytes.
 pub data Reads (text : List ℕ) (number room : ℕ) : ReadAnswer → List ℕ → Type 0 where
   -- 0: accepted; the data, and then zeros; the style of all line ends of the text (K7)
   accepted : (g : Grammar) (r : Reading) → Passed text number g r → length (data_of r) ≤ room → (ss : List LineEnding) → LineEnds text ss
-      → Reads text number room (Accepted (found_of r) (style_of ss)) (data_of r ++ replicate (room - length (data_of r)) 0)
+      → Reads text number room (Ok record { found = found_of r; style = style_of ss }) (data_of r ++ replicate (room - length (data_of r)) 0)
   -- 1 to 9: zeros only, no family and no style
-  refused : {refusal : Refusal} → Refuses text number refusal → Reads text number room (Refused refusal) (replicate room 0)
+  refused : {refusal : Refusal} → Refuses text number refusal → Reads text number room (Err (Refused refusal)) (replicate room 0)
   -- 10: lent output too small; zeros only, and no style
   output_too_small : (g : Grammar) (r : Reading) → Passed text number g r → room < length (data_of r)
-      → Reads text number room (OutputTooSmall (found_of r)) (replicate room 0)
+      → Reads text number room (Err (TooSmall (found_of r))) (replicate room 0)
 
 -- The part that the label call hands back.
 pub data HandsBack (text : List ℕ) (number : ℕ) : List ℕ → Type 0 where

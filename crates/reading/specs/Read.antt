@@ -1,6 +1,6 @@
 -- What `read` and `label` answer, as functions of the text, the grammar's number and the output's length alone, check by
 -- check in the requirements' order. Assumes nothing. None of this has to be believed: see `Meaning`.
-use Rattle.std.specs.Prelude.{Bool, true, false, cond, List, [], ◌++◌, ℕ, ◌+◌, ◌*◌, ◌-◌, ◌/◌, ◌%◌, ◌^◌, ◌≤◌, ◌<◌, eqb, ltb, length, take, drop, get_or, replicate}
+use Rattle.std.specs.Prelude.{Bool, true, false, cond, List, [], ◌++◌, ℕ, ◌+◌, ◌*◌, ◌-◌, ◌/◌, ◌%◌, ◌^◌, ◌≤◌, ◌<◌, eqb, ltb, length, take, drop, get_or, replicate, Option, Some, None, Result, Ok, Err}
 use Rattle.base_64.specs.Lists.{same_bytes}
 use Rattle.base_64.specs.Alphabet.{value_of}
 use Rattle.base_64.specs.Groups.{decode}
@@ -10,27 +10,27 @@ use Rattle.grammar.specs.Families.{family_of}
 use Rattle.grammar.specs.Message.{characters}
 use Rattle.grammar.specs.declared.Grammar.{Grammar}
 use Rattle.grammar.specs.declared.Grammar.TheVariants.{Lax, Standard, Strict}
-use Rattle.grammar.specs.declared.Numbered.{Numbered}
-use Rattle.grammar.specs.declared.Numbered.TheVariants.{Known, Unknown}
+use Rattle.output.specs.declared.CallError.TheVariants.{Refused, TooSmall}
 use Rattle.machine.proofs.Machine.{start, part_of, accepting}
 use Rattle.machine.specs.declared.Part.{Part}
 use Rattle.machine.specs.declared.Part.TheVariants as part
-use Rattle.reading.specs.Answers.{offset, byte_count, span, family}
+use Rattle.reading.specs.Answers.{offset, byte_count, span, ReadAnswer}
 use Rattle.reading.specs.Limits.{text_limit, label_limit}
 use Rattle.reading.specs.Data.{spare_of}
 use Rattle.reading.specs.Ends.{counted_style}
 use Rattle.reading.specs.Scan.{no_tally, scan_of}
 use Rattle.reading.specs.declared.Found.{Found}
-use Rattle.reading.specs.declared.Judgement.{Judgement}
-use Rattle.reading.specs.declared.Judgement.TheVariants as judgement
 use Rattle.reading.specs.declared.Layout.{Layout}
 use Rattle.reading.specs.declared.Refusal.{Refusal}
 use Rattle.reading.specs.declared.Refusal.TheVariants.{UnknownGrammar, TextTooLong, BadOpening, BadBody, BadClosing, LabelTooLong, LabelsDiffer, BadCounts, SpareBits}
-use Rattle.reading.specs.declared.ReadAnswer.{ReadAnswer}
-use Rattle.reading.specs.declared.ReadAnswer.TheVariants.{Accepted, Refused, OutputTooSmall}
 use Rattle.reading.specs.declared.Scan.{Scan}
+use Rattle.reading.specs.declared.Sound.{Sound}
 use Rattle.reading.specs.declared.Span.{Span}
 use Rattle.reading.specs.declared.Tally.{Tally}
+
+-- The outcome of checks: what is known of a message that passed them, or the first refusal.
+abbrev pub Judgement : Type 0
+Judgement = Result Sound Refusal
 
 -- ---- Where the parts of a message are
 
@@ -55,6 +55,14 @@ Fits from t =
     × (length begin + length hyphens ≤ t.opening)
     × (length end + length hyphens ≤ t.closing)
     × (t.last ≤ t.body)
+
+-- A tally within so many bytes: what code has to know of a message that was scanned.
+pub record TallyFits (n : ℕ) (t : Tally) : Type 0 where
+  pub opening : length begin + length hyphens ≤ t.opening
+  pub closing : length end + length hyphens ≤ t.closing
+  pub sum : t.before + t.opening + t.body + t.closing ≤ n
+  pub characters : t.characters ≤ t.body
+  pub last : t.last ≤ t.body
 
 -- A layout within a text of this length.
 abbrev pub Lies : ℕ → Layout → Type 0
@@ -98,20 +106,23 @@ abbrev pub spare_clear : Grammar → List ℕ → Layout → Tally → Bool
 spare_clear g text l t = spare_asked g (spare_zero text l t)
 
 abbrev pub found_in : List ℕ → Layout → Tally → Found
-found_in text l t = record { size = byte_count (t.characters * 3 / 4); label = l.opened; family = family (family_of (spanned text l.opened)) }
+found_in text l t = record { size = byte_count (t.characters * 3 / 4); label = l.opened; family = family_of (spanned text l.opened) }
 
 abbrev pub judged_parts : Grammar → List ℕ → Layout → Tally → Judgement
 judged_parts g text l t =
     cond
     (ltb label_limit l.opened.length)
-    (judgement.Refused (LabelTooLong l.opened.at))
+    (Err (LabelTooLong l.opened.at))
     (cond
     (labels_agree text l)
     (cond
     (counts_fit t.characters t.pads)
-    (cond (spare_clear g text l t) (judgement.Sound l (found_in text l t) (counted_style t.ends)) (judgement.Refused (SpareBits (offset (last_at l t)))))
-    (judgement.Refused (BadCounts l.closing)))
-    (judgement.Refused (LabelsDiffer l.closed.at)))
+    (cond
+    (spare_clear g text l t)
+    (Ok record { layout = l; found = found_in text l t; style = counted_style t.ends })
+    (Err (SpareBits (offset (last_at l t)))))
+    (Err (BadCounts l.closing)))
+    (Err (LabelsDiffer l.closed.at)))
 
 -- ---- Checks 1 to 9
 
@@ -120,11 +131,11 @@ judged_scan g text s =
     cond
     (is_whole s (length text))
     (judged_parts g text (layout_of 0 s.tally) s.tally)
-    (judgement.Refused (grammar_refusal (part_of s.phase) s.length))
+    (Err (grammar_refusal (part_of s.phase) s.length))
 
-abbrev pub judged_by : Numbered → List ℕ → Judgement
-judged_by Unknown text = judgement.Refused UnknownGrammar
-judged_by (Known g) text = cond (ltb text_limit (length text)) (judgement.Refused TextTooLong) (judged_scan g text (scan_of g (start g) 0 no_tally text))
+abbrev pub judged_by : Option Grammar → List ℕ → Judgement
+judged_by None text = Err UnknownGrammar
+judged_by (Some g) text = cond (ltb text_limit (length text)) (Err TextTooLong) (judged_scan g text (scan_of g (start g) 0 no_tally text))
 
 abbrev pub judge_of : List ℕ → ℕ → Judgement
 judge_of text number = judged_by (grammar_of number) text
@@ -132,25 +143,26 @@ judge_of text number = judged_by (grammar_of number) text
 -- ---- Check 10, the answer and the output
 
 abbrev pub answered : Judgement → ℕ → ReadAnswer
-answered (judgement.Refused r) room = Refused r
-answered (judgement.Sound l found style) room = cond (ltb room found.size.0) (OutputTooSmall found) (Accepted found style)
+answered (Err refusal) room = Err (Refused refusal)
+answered (Ok sound) room =
+    cond (ltb room sound.found.size.0) (Err (TooSmall sound.found)) (Ok record { found = sound.found; style = sound.style })
 
 abbrev pub read_of : List ℕ → ℕ → ℕ → ReadAnswer
 read_of text number room = answered (judge_of text number) room
 
 -- Data and then zeros, or zeros only.
 abbrev pub written : Judgement → List ℕ → ℕ → List ℕ
-written (judgement.Refused r) text room = replicate room 0
-written (judgement.Sound l found style) text room =
-    cond (ltb room found.size.0) (replicate room 0) (decode (characters (spanned text l.body)) ++ replicate (room - found.size.0) 0)
+written (Err refusal) text room = replicate room 0
+written (Ok sound) text room =
+    cond (ltb room sound.found.size.0) (replicate room 0) (decode (characters (spanned text sound.layout.body)) ++ replicate (room - sound.found.size.0) 0)
 
 abbrev pub output_of : List ℕ → ℕ → ℕ → List ℕ
 output_of text number room = written (judge_of text number) text room
 
 -- The label's part of the text, empty where checks 1 to 9 refuse.
 abbrev pub label_in : Judgement → List ℕ → List ℕ
-label_in (judgement.Refused r) text = []
-label_in (judgement.Sound l found style) text = spanned text l.opened
+label_in (Err refusal) text = []
+label_in (Ok sound) text = spanned text sound.layout.opened
 
 abbrev pub label_of : List ℕ → ℕ → List ℕ
 label_of text number = label_in (judge_of text number) text

@@ -1,15 +1,14 @@
 -- Rows of samples: a text, and what the read call answers to it under each grammar. Assumes nothing.
-use Rattle.std.specs.Prelude.{List, [], ◌∷◌, ◌++◌, ℕ, ◌-◌, length, replicate}
-use Rattle.grammar.specs.Families.{no_family}
+use Rattle.std.specs.Prelude.{List, [], ◌∷◌, ◌++◌, ℕ, ◌-◌, length, replicate, Option, Some, None, Ok, Err}
+use Rattle.output.specs.declared.CallError.TheVariants.{Refused, TooSmall}
 use Rattle.grammar.specs.Grammars.{lax_number, standard_number, strict_number}
+use Rattle.grammar.specs.declared.Family.{Family}
 use Rattle.grammar.specs.declared.LineEnding.TheVariants.{Lf, CrLf, Cr}
 use Rattle.grammar.specs.declared.LineStyle.{LineStyle}
 use Rattle.grammar.specs.declared.LineStyle.TheVariants.{NoLineEnd, Only, Mixed}
-use Rattle.reading.specs.Answers.{offset, byte_count, span, family}
+use Rattle.reading.specs.Answers.{offset, byte_count, span, ReadAnswer}
 use Rattle.reading.specs.Meaning.{Reads}
 use Rattle.reading.specs.declared.Found.{Found}
-use Rattle.reading.specs.declared.ReadAnswer.{ReadAnswer}
-use Rattle.reading.specs.declared.ReadAnswer.TheVariants.{Accepted, Refused, OutputTooSmall}
 use Rattle.reading.specs.declared.Refusal.{Refusal}
 use Rattle.reading.specs.declared.Refusal.TheVariants.{BadOpening, BadBody, BadClosing, LabelsDiffer, BadCounts, SpareBits}
 
@@ -32,21 +31,21 @@ row text lax standard strict = record { text = text; lax = lax; standard = stand
 -- What it makes of a text under a grammar: a label of so many bytes at 11 and its family, line ends of this style and this data;
 -- a refusal; or data for which the lent output has no room.
 pub data Outcome : Type 0 where
-  accepted : (label_length label_family : ℕ) → LineStyle → List ℕ → Outcome
+  accepted : (label_length : ℕ) (label_family : Option Family) → LineStyle → List ℕ → Outcome
   refused : Refusal → Outcome
-  too_small : (label_length label_family size : ℕ) → Outcome
+  too_small : (label_length : ℕ) (label_family : Option Family) (size : ℕ) → Outcome
 
 -- The bytes of the lent output.
 abbrev pub room : ℕ
 room = 4
 
-abbrev pub found_for : (label_length label_family size : ℕ) → Found
-found_for n k size = record { size = byte_count size; label = span 11 n; family = family k }
+abbrev pub found_for : (label_length : ℕ) (label_family : Option Family) (size : ℕ) → Found
+found_for n k size = record { size = byte_count size; label = span 11 n; family = k }
 
 abbrev pub answer_for : Outcome → ReadAnswer
-answer_for (accepted n k style content) = Accepted (found_for n k (length content)) style
-answer_for (refused refusal) = Refused refusal
-answer_for (too_small n k size) = OutputTooSmall (found_for n k size)
+answer_for (accepted n k style content) = Ok record { found = found_for n k (length content); style = style }
+answer_for (refused refusal) = Err (Refused refusal)
+answer_for (too_small n k size) = Err (TooSmall (found_for n k size))
 
 abbrev pub output_for : Outcome → List ℕ
 output_for (accepted n k style content) = content ++ replicate (room - length content) 0
@@ -59,22 +58,22 @@ Holds number text o = Reads text number room (answer_for o) (output_for o)
 
 -- Accepted, the label one byte and of no family, with line ends of each style.
 abbrev pub no_line_end : List ℕ → Outcome
-no_line_end content = accepted 1 no_family NoLineEnd content
+no_line_end content = accepted 1 None NoLineEnd content
 
 abbrev pub lf : List ℕ → Outcome
-lf content = accepted 1 no_family (Only Lf) content
+lf content = accepted 1 None (Only Lf) content
 
 abbrev pub crlf : List ℕ → Outcome
-crlf content = accepted 1 no_family (Only CrLf) content
+crlf content = accepted 1 None (Only CrLf) content
 
 abbrev pub cr : List ℕ → Outcome
-cr content = accepted 1 no_family (Only Cr) content
+cr content = accepted 1 None (Only Cr) content
 
 abbrev pub mixed : List ℕ → Outcome
-mixed content = accepted 1 no_family Mixed content
+mixed content = accepted 1 None Mixed content
 
 -- Accepted, with a label of so many bytes and this family, and the one byte of M.
-abbrev pub in_family : ℕ → ℕ → Outcome
+abbrev pub in_family : ℕ → Option Family → Outcome
 in_family n k = accepted n k (Only Lf) (102 ∷ [])
 
 -- The numbers of the table, each with its place.

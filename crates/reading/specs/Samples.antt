@@ -1,8 +1,9 @@
 -- The counter samples: the rows of the requirements marked *, those of pads on two lines, of spare bits, of line ends and of
 -- families, as one list under one claim. Assumes nothing.
-use Rattle.std.specs.Prelude.{List, [], ◌∷◌, ◌++◌, ℕ}
+use Rattle.std.specs.Prelude.{List, [], ◌∷◌, ◌++◌, ℕ, Some, None}
 use Rattle.base_64.specs.Lists.{All}
 use Rattle.grammar.specs.Samples.{begin_a, end_a, end_b, around, M, unended_m, labelled}
+use Rattle.grammar.specs.declared.Family.TheVariants.{CertificateRequest, Cms, PublicKey}
 use Rattle.reading.specs.Rows.{Row, RowHolds, row, Outcome, too_small, Holds, no_line_end, lf, crlf, cr, mixed, in_family, no3, no4, no5, no7, no8, no9}
 
 -- The rows of the requirements.
@@ -117,12 +118,12 @@ line_ends =
 -- K6: labels of families, and others.
 abbrev pub families : List (Row Outcome)
 families =
-    row (labelled "CMS" "CMS" "Zg==") (in_family 3 5) (in_family 3 5) (in_family 3 5)
-    ∷ row (labelled "NEW CERTIFICATE REQUEST" "NEW CERTIFICATE REQUEST" "Zg==") (in_family 23 3) (in_family 23 3) (in_family 23 3)
-    ∷ row (labelled "CERTIFICATE CHAIN" "CERTIFICATE CHAIN" "Zg==") (in_family 17 0) (in_family 17 0) (in_family 17 0)
-    ∷ row (labelled "Cms" "Cms" "Zg==") (in_family 3 0) (in_family 3 0) (in_family 3 0)
+    row (labelled "CMS" "CMS" "Zg==") (in_family 3 (Some Cms)) (in_family 3 (Some Cms)) (in_family 3 (Some Cms))
+    ∷ row (labelled "NEW CERTIFICATE REQUEST" "NEW CERTIFICATE REQUEST" "Zg==") (in_family 23 (Some CertificateRequest)) (in_family 23 (Some CertificateRequest)) (in_family 23 (Some CertificateRequest))
+    ∷ row (labelled "CERTIFICATE CHAIN" "CERTIFICATE CHAIN" "Zg==") (in_family 17 None) (in_family 17 None) (in_family 17 None)
+    ∷ row (labelled "Cms" "Cms" "Zg==") (in_family 3 None) (in_family 3 None) (in_family 3 None)
     -- five bytes, for which there is no room
-    ∷ row (labelled "PUBLIC KEY" "PUBLIC KEY" "Zm9vYmE=") (too_small 10 9 5) (too_small 10 9 5) (too_small 10 9 5)
+    ∷ row (labelled "PUBLIC KEY" "PUBLIC KEY" "Zm9vYmE=") (too_small 10 (Some PublicKey) 5) (too_small 10 (Some PublicKey) 5) (too_small 10 (Some PublicKey) 5)
     -- labels that differ in bytes, if not in family, and counts that do not fit
     ∷ row (labelled "CERTIFICATE" "X509 CERTIFICATE" "Zg==") (no7 42) (no7 42) (no7 42)
     ∷ row (labelled "CMS" "CMS" "Zg=") (no8 24) (no8 24) (no4 23)

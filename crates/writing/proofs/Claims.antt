@@ -22,8 +22,8 @@ use Rattle.grammar.specs.declared.LineEnding.{LineEnding}
 use Rattle.grammar.specs.declared.LineEnding.TheVariants.{Lf, CrLf, Cr}
 use Rattle.grammar.specs.declared.Grammar.{Grammar}
 use Rattle.grammar.specs.declared.Grammar.TheVariants.{Strict}
-use Rattle.grammar.specs.declared.Numbered.TheVariants.{Known}
-use Rattle.grammar.specs.declared.NumberedEnding.TheVariants as end
+use Rattle.std.specs.Prelude.{Some, Ok, Err}
+use Rattle.output.specs.declared.CallError.TheVariants.{TooSmall}
 use Rattle.grammar.specs.declared.LineStyle.{LineStyle}
 use Rattle.grammar.specs.declared.LineStyle.TheVariants.{NoLineEnd, Only, Mixed}
 use Rattle.grammar.proofs.LineEnds.{Alike, number_style, some_ends}
@@ -36,17 +36,14 @@ use Rattle.reading.specs.Meaning.{Passed}
 use Rattle.reading.proofs.Whole.{front_same}
 use Rattle.reading.specs.Read.{label_of}
 use Rattle.reading.specs.Answers as reader
-use Rattle.reading.specs.Answers.{byte_count, span, family}
-use Rattle.reading.specs.declared.ReadAnswer.TheVariants as read
+use Rattle.reading.specs.Answers.{byte_count, span}
 use Rattle.reading.proofs.Results.{passed_read, passed_label, zero_received}
 use Rattle.writing.specs.Limits.{data_limit}
 use Rattle.writing.specs.Answers.{text_size, refusal_number, number_of, size_of}
 use Rattle.writing.specs.Text.{written_text, second_bytes, written_size}
 use Rattle.writing.specs.Meaning.{Refuses, Takes}
-use Rattle.writing.specs.Write.{judge_of, answered, write_of, write_output}
+use Rattle.writing.specs.Write.{Judgement, judge_of, answered, write_of, write_output}
 use Rattle.writing.specs.Claims.{TakesExactly, AnswersZero, Writable, ZeroExactly, Written, WrittenLength, ReadsBack, data_read, Restores, largest, Largest, TakesItem, WrittenList, none, next, OneList}
-use Rattle.writing.specs.declared.Judgement.{Judgement}
-use Rattle.writing.specs.declared.WriteAnswer.TheVariants as answer
 use Rattle.writing.specs.declared.WriteRefusal.{WriteRefusal}
 use Rattle.writing.specs.declared.WriteRefusal.TheVariants.{LabelTooLong, NotALabel, NoData, DataTooLong, UnknownStyle}
 use Rattle.writing.proofs.Lines.{lines_some}
@@ -58,17 +55,17 @@ use Rattle.writing.proofs.Meaning.{Judged, takes, refuses, judge_means, takes_ju
 pub takes_exactly : TakesExactly
 takes_exactly = record { only = only; always = always }
   where
-    only : (label content : List ℕ) (number : ℕ) (s : LineEnding) → Takes label content → line_ending_of number ≡ end.Known s → (refusal : WriteRefusal)
+    only : (label content : List ℕ) (number : ℕ) (s : LineEnding) → Takes label content → line_ending_of number ≡ Some s → (refusal : WriteRefusal)
         → ¬ Refuses label content number refusal
     only label content number s t k refusal f =
         let z : ◌≡◌ {A = ℕ} 0 1 = cc (takes_judge s label content number t k, refuses_judge label content number refusal f) in
         omega arith
 
     always : (label content : List ℕ) (number : ℕ) → ((refusal : WriteRefusal) → ¬ Refuses label content number refusal)
-        → Takes label content × ((s : LineEnding) × (line_ending_of number ≡ end.Known s))
+        → Takes label content × ((s : LineEnding) × (line_ending_of number ≡ Some s))
     always label content number unrefused = go (judge_of label content number) (judge_means label content number)
       where
-        go : (j : Judgement) → Judged label content number j → Takes label content × ((s : LineEnding) × (line_ending_of number ≡ end.Known s))
+        go : (j : Judgement) → Judged label content number j → Takes label content × ((s : LineEnding) × (line_ending_of number ≡ Some s))
         go j (takes s t k) = (t, (s, k))
         go j (refuses {refusal} f) = absurd (unrefused refusal f)
 
@@ -83,22 +80,22 @@ refusal_some UnknownStyle e = omega (arith, e)
 
 -- A label and data answered with 0 are taken, in a style, and have room.
 zero_styled : (label content : List ℕ) (number room : ℕ) → number_of (write_of label content number room) ≡ 0
-    → (s : LineEnding) × ((line_ending_of number ≡ end.Known s) × Takes label content × (length (written_text s label content) ≤ room))
+    → (s : LineEnding) × ((line_ending_of number ≡ Some s) × Takes label content × (length (written_text s label content) ≤ room))
 zero_styled label content number room z = go (judge_of label content number) (judge_means label content number) z
   where
     fits : (s : LineEnding) → Takes label content → (b : Bool) → ltb room (written_size s (length label) (length content)) ≡ b
-        → number_of (cond b (answer.OutputTooSmall (text_size (written_size s (length label) (length content)))) (answer.Accepted (text_size (written_size s (length label) (length content))))) ≡ 0
+        → number_of (cond b (Err (TooSmall (text_size (written_size s (length label) (length content))))) (Ok (text_size (written_size s (length label) (length content))))) ≡ 0
         → length (written_text s label content) ≤ room
     fits s t true e z = absurd (omega (arith, z))
     fits s t false e z = omega (arith, ltb-false room (written_size s (length label) (length content)) e, length_written s label content t.some_data)
 
     go : (j : Judgement) → Judged label content number j → number_of (answered j room) ≡ 0
-        → (s : LineEnding) × ((line_ending_of number ≡ end.Known s) × Takes label content × (length (written_text s label content) ≤ room))
+        → (s : LineEnding) × ((line_ending_of number ≡ Some s) × Takes label content × (length (written_text s label content) ≤ room))
     go j (takes s t k) z = (s, (k, t, fits s t (ltb room (written_size s (length label) (length content))) refl z))
     go j (refuses {refusal} f) z = absurd (refusal_some refusal z)
 
 -- The same where the style is known.
-zero_takes : (s : LineEnding) (label content : List ℕ) (number room : ℕ) → line_ending_of number ≡ end.Known s → number_of (write_of label content number room) ≡ 0
+zero_takes : (s : LineEnding) (label content : List ℕ) (number room : ℕ) → line_ending_of number ≡ Some s → number_of (write_of label content number room) ≡ 0
     → Takes label content × (length (written_text s label content) ≤ room)
 zero_takes s label content number room k z =
     let (u, (l, t, h)) = zero_styled label content number room z in
@@ -106,7 +103,7 @@ zero_takes s label content number room k z =
     (t, subst (λ v. length (written_text v label content) ≤ room) same h)
 
 -- A label and data that are taken, with room, are answered 0 with the written text.
-takes_zero : (s : LineEnding) (label content : List ℕ) (number room : ℕ) → Takes label content → line_ending_of number ≡ end.Known s
+takes_zero : (s : LineEnding) (label content : List ℕ) (number room : ℕ) → Takes label content → line_ending_of number ≡ Some s
     → length (written_text s label content) ≤ room → AnswersZero label content number room (written_text s label content)
 takes_zero s label content number room t k h =
     let given = takes_answer s label content number room t k h in
@@ -114,7 +111,7 @@ takes_zero s label content number room t k h =
 
 -- An answer 0 is with the written text.
 zero_text : (label content : List ℕ) (number room : ℕ) (text : List ℕ) → AnswersZero label content number room text → (s : LineEnding)
-    → line_ending_of number ≡ end.Known s → Takes label content → length (written_text s label content) ≤ room → text ≡ written_text s label content
+    → line_ending_of number ≡ Some s → Takes label content → length (written_text s label content) ≤ room → text ≡ written_text s label content
 zero_text label content number room text z s k t h =
     let y = takes_zero s label content number room t k h in
     front_same text _ (written_text s label content) _ (sym z.held ∙ y.held) (sym z.size ∙ y.size)
@@ -141,7 +138,7 @@ zero_exactly = record { only = only; always = always; some = some; each = each }
         let (s, (k, t, h)) = zero_styled label content number room z in
         (written_text s label content, takes_zero s label content number room t k h)
 
-    each : (label content : List ℕ) (number room : ℕ) (s : LineEnding) → Takes label content → line_ending_of number ≡ end.Known s
+    each : (label content : List ℕ) (number room : ℕ) (s : LineEnding) → Takes label content → line_ending_of number ≡ Some s
         → written_size s (length label) (length content) ≤ room → number_of (write_of label content number room) ≡ 0
     each label content number room s t k h = (takes_zero s label content number room t k (rw (length_written s label content t.some_data) h)).zero
 
@@ -202,7 +199,7 @@ largest_text = record {
 
 -- ---- reading what was written
 
-written_passed : (s : LineEnding) (label content : List ℕ) → All Octet content → Takes label content → (number : ℕ) (g : Grammar) → grammar_of number ≡ Known g
+written_passed : (s : LineEnding) (label content : List ℕ) → All Octet content → Takes label content → (number : ℕ) (g : Grammar) → grammar_of number ≡ Some g
     → Passed (written_text s label content) number g (written_reading s label content)
 written_passed s label content octets t number g known = record {
   parsed = record {
@@ -221,7 +218,7 @@ reads_back s label content text octets w number g known room fits =
     let strict = written_strict s label content octets t.is_label t.some_data in
     let given = passed_read (written_text s label content) number room g (written_reading s label content) passed (rw back fits) strict.list strict.line_ends in
     rw same (
-      given.0 ∙ (λ i. read.Accepted record { size = byte_count (length (back i)); label = span (length begin) (length label); family = family (family_of label) } (strict.style i)),
+      given.0 ∙ (λ i. Ok record { found = record { size = byte_count (length (back i)); label = span (length begin) (length label); family = family_of label }; style = strict.style i }),
       given.1 ∙ ap (λ (d : List ℕ). d ++ replicate (room - length d) 0) back,
       passed_label (written_text s label content) number g (written_reading s label content) passed,
     )
@@ -249,12 +246,12 @@ restored s text r p alike short = (
       ∙ sym (written_joined s r.opening_label (data_of r)),
 )
 
-strict_known : (g : Grammar) → grammar_of strict_number ≡ Known g → g ≡ Strict
+strict_known : (g : Grammar) → grammar_of strict_number ≡ Some g → g ≡ Strict
 strict_known g e = cc
 
 restored_answer : (s : LineEnding) (text label content l d : List ℕ) (room : ℕ) → l ≡ label → d ≡ content → Takes label content → text ≡ written_text s label content
     → length text ≤ room
-    → (write_of l d (line_ending_number s) room ≡ answer.Accepted (text_size (length text))) × (write_output l d (line_ending_number s) room ≡ text ++ replicate (room - length text) 0)
+    → (write_of l d (line_ending_number s) room ≡ Ok (text_size (length text))) × (write_output l d (line_ending_number s) room ≡ text ++ replicate (room - length text) 0)
 restored_answer s text label content l d room is_label is_data t same fits =
     rw (is_label, is_data, same) (takes_answer s label content (line_ending_number s) room t (number_style s) (rw same at fits))
 

@@ -54,6 +54,11 @@ end_length Lf = refl
 end_length CrLf = refl
 end_length Cr = refl
 
+pub end_short : (s : LineEnding) → length (line_end s) ≤ 2
+end_short Lf = omega arith
+end_short CrLf = omega arith
+end_short Cr = omega arith
+
 -- The line ends: one, and one more for each 64 characters past the room that is left.
 abbrev pub line_count : ℕ → ℕ → ℕ
 line_count room n = 1 + (n - room + 63) / 64

@@ -1,7 +1,7 @@
 -- What the call's definition answers is what the requirements' rows say, and the rows leave one answer only. Assumes nothing.
-use mathlib.Core.Path.{◌≡◌, refl, sym, ap, ◌∙◌}
+use mathlib.Core.Path.{◌≡◌, refl, sym, ap, subst, ◌∙◌}
 use mathlib.Core.Logic.{◌≢◌}
-use mathlib.Core.Bool.{Bool, true, false, cond, true≢false}
+use mathlib.Core.Bool.{Bool, true, false, cond, true≢false, false≢true}
 use mathlib.Core.List.{List, [], ◌∷◌, ◌++◌}
 use Prim.Native.Nat.{ℕ, ◌-◌, ◌≤◌, ◌<◌}
 use lib.Dec.{ltb}
@@ -13,37 +13,35 @@ use Rattle.base_64.specs.Alphabet.{Octet}
 use Rattle.grammar.specs.Marks.{Label}
 use Rattle.grammar.specs.LineEnds.{line_ending_of}
 use Rattle.grammar.specs.declared.LineEnding.{LineEnding}
-use Rattle.grammar.specs.declared.NumberedEnding.{NumberedEnding}
-use Rattle.grammar.specs.declared.NumberedEnding.TheVariants.{Known, Unknown}
+use Rattle.std.specs.Prelude.{Option, Some, None, Ok, Err, is_err}
+use Rattle.output.specs.declared.CallError.{CallError}
+use Rattle.output.specs.declared.CallError.TheVariants.{TooSmall}
 use Rattle.machine.proofs.Labels.{test_label, label_test}
 use Rattle.reading.specs.Limits.{label_limit}
 use Rattle.writing.specs.Limits.{data_limit}
-use Rattle.writing.specs.Answers.{text_size}
+use Rattle.writing.specs.Answers.{WriteAnswer, text_size}
 use Rattle.writing.specs.Text.{written_text, written_size}
 use Rattle.writing.specs.Meaning as rows
 use Rattle.writing.specs.Meaning.{Refuses, Takes, Writes}
-use Rattle.writing.specs.Write.{long_label, is_label, no_data, long_data, styled, judge_of, too_small, answered, write_of, filled, write_output}
-use Rattle.writing.specs.declared.Judgement.{Judgement}
-use Rattle.writing.specs.declared.Judgement.TheVariants as judgement
+use Rattle.writing.specs.Write.{long_label, is_label, no_data, long_data, Judgement, styled, judge_of, too_small, answered, write_of, filled, write_output}
+use Rattle.writing.specs.declared.Taken.{Taken}
 use Rattle.writing.specs.declared.TextSize.{TextSize}
-use Rattle.writing.specs.declared.WriteAnswer.{WriteAnswer}
-use Rattle.writing.specs.declared.WriteAnswer.TheVariants as answer
 use Rattle.writing.specs.declared.WriteRefusal.{WriteRefusal}
 use Rattle.writing.proofs.Text.{written_strict, strict_written, length_written}
 
 -- ---- Checks 11 to 14 and 20
 
 -- The judgement of a label and data that the writer takes.
-abbrev pub taken : LineEnding → List ℕ → List ℕ → Judgement
-taken s label content = judgement.Taken s (text_size (written_size s (length label) (length content)))
+abbrev pub taken : LineEnding → List ℕ → List ℕ → Taken
+taken s label content = record { ending = s; size = text_size (written_size s (length label) (length content)) }
 
 no_length : {A : Type 0} (l : List A) → length l ≡ 0 → l ≡ []
 no_length [] e = refl
 no_length (x ∷ l) e = absurd (omega arith)
 
 pub data Judged (label content : List ℕ) (number : ℕ) : Judgement → Type 0 where
-  takes : (s : LineEnding) → Takes label content → line_ending_of number ≡ Known s → Judged label content number (taken s label content)
-  refuses : {refusal : WriteRefusal} → Refuses label content number refusal → Judged label content number (judgement.Refused refusal)
+  takes : (s : LineEnding) → Takes label content → line_ending_of number ≡ Some s → Judged label content number (Ok (taken s label content))
+  refuses : {refusal : WriteRefusal} → Refuses label content number refusal → Judged label content number (Err refusal)
 
 -- What the tests tell.
 long_label_lem : (label : List ℕ) → long_label label ≡ true → label_limit < length label
@@ -103,9 +101,9 @@ judge_means label content number =
     J : Judgement → Type 0
     J = Judged label content number
 
-    by_style : (n : NumberedEnding) → line_ending_of number ≡ n → Takes label content → J (styled n label content)
-    by_style Unknown e t = refuses (rows.unknown_style t e)
-    by_style (Known s) e t = takes s t e
+    by_style : (n : Option LineEnding) → line_ending_of number ≡ n → Takes label content → J (styled n label content)
+    by_style None e t = refuses (rows.unknown_style t e)
+    by_style (Some s) e t = takes s t e
 
 -- Each row leaves one judgement only.
 taken_judge : (label content : List ℕ) (number : ℕ) → Takes label content → judge_of label content number ≡ styled (line_ending_of number) label content
@@ -113,20 +111,19 @@ taken_judge label content number t =
     let some : length content ≢ 0 = λ e. t.some_data (no_length content e) in
     rw (le-ltb label_limit (length label) t.short_label, label_test t.is_label, ne_eqb (length content) 0 some, le-ltb data_limit (length content) t.short_data)
 
-pub takes_judge : (s : LineEnding) (label content : List ℕ) (number : ℕ) → Takes label content → line_ending_of number ≡ Known s
-    → judge_of label content number ≡ taken s label content
+pub takes_judge : (s : LineEnding) (label content : List ℕ) (number : ℕ) → Takes label content → line_ending_of number ≡ Some s
+    → judge_of label content number ≡ Ok (taken s label content)
 takes_judge s label content number t e = taken_judge label content number t ∙ ap (λ n. styled n label content) e
 
 -- The size that was judged is the text's length.
-pub taken_size : (s : LineEnding) (label content : List ℕ) (number : ℕ) (size : TextSize) → judge_of label content number ≡ judgement.Taken s size
-    → size.0 ≡ length (written_text s label content)
-taken_size s label content number size e = go (judge_of label content number) (judge_means label content number) e
+pub taken_size : (label content : List ℕ) (number : ℕ) (t : Taken) → judge_of label content number ≡ Ok t
+    → t.size.0 ≡ length (written_text t.ending label content)
+taken_size label content number a e = go (judge_of label content number) (judge_means label content number) e
   where
-    go : (j : Judgement) → Judged label content number j → j ≡ judgement.Taken s size → size.0 ≡ length (written_text s label content)
+    go : (j : Judgement) → Judged label content number j → j ≡ Ok a → a.size.0 ≡ length (written_text a.ending label content)
     go j (takes u t k) e =
-        let kind : u ≡ s = cc in
-        let same : text_size (written_size u (length label) (length content)) ≡ size = cc in
-        sym (ap (λ z. z.0) same) ∙ ap (λ v. written_size v (length label) (length content)) kind ∙ sym (length_written s label content t.some_data)
+        let same : taken u label content ≡ a = cc in
+        subst (λ b. b.size.0 ≡ length (written_text b.ending label content)) same (sym (length_written u label content t.some_data))
     go j (refuses f) e =
         let z : ◌≡◌ {A = ℕ} 0 1 = cc in
         absurd (omega arith)
@@ -136,7 +133,7 @@ not_label label true e h = absurd (h (test_label label e))
 not_label label false e h = refl
 
 pub refuses_judge : (label content : List ℕ) (number : ℕ) (refusal : WriteRefusal) → Refuses label content number refusal
-    → judge_of label content number ≡ judgement.Refused refusal
+    → judge_of label content number ≡ Err refusal
 refuses_judge label content number refusal (rows.label_too_long h) = rw (lt-ltb label_limit (length label) h)
 refuses_judge label content number refusal (rows.not_aLabel s h) = rw (le-ltb label_limit (length label) s, not_label label (is_label label) refl h)
 refuses_judge label content number refusal (rows.no_data s l e) = rw (le-ltb label_limit (length label) s, label_test l, e)
@@ -156,32 +153,32 @@ picks_second b x y e = rw e
 
 -- With room and without, of a text of the size that was judged.
 room_answer : (s : LineEnding) (label content : List ℕ) (n room : ℕ) → n ≡ length (written_text s label content) → length (written_text s label content) ≤ room
-    → (answered (judgement.Taken s (text_size n)) room ≡ answer.Accepted (text_size (length (written_text s label content))))
-    × (filled (judgement.Taken s (text_size n)) label content room ≡ written_text s label content ++ replicate (room - length (written_text s label content)) 0)
+    → (answered (Ok record { ending = s; size = text_size n }) room ≡ Ok (text_size (length (written_text s label content))))
+    × (filled (Ok record { ending = s; size = text_size n }) label content room ≡ written_text s label content ++ replicate (room - length (written_text s label content)) 0)
 room_answer s label content n room e h =
     let some : too_small room (length (written_text s label content)) ≡ false = roomy room (length (written_text s label content)) h in
     rw e (picks_second _ _ _ some, picks_second _ _ _ some)
 
 small_answer : (s : LineEnding) (label content : List ℕ) (n room : ℕ) → n ≡ length (written_text s label content) → room < length (written_text s label content)
-    → (answered (judgement.Taken s (text_size n)) room ≡ answer.OutputTooSmall (text_size (length (written_text s label content))))
-    × (filled (judgement.Taken s (text_size n)) label content room ≡ replicate room 0)
+    → (answered (Ok record { ending = s; size = text_size n }) room ≡ Err (TooSmall (text_size (length (written_text s label content)))))
+    × (filled (Ok record { ending = s; size = text_size n }) label content room ≡ replicate room 0)
 small_answer s label content n room e h =
     let none : too_small room (length (written_text s label content)) ≡ true = too_small_lem room (length (written_text s label content)) h in
     rw e (picks_first _ _ _ none, picks_first _ _ _ none)
 
 -- What is written of a label and data that the writer takes.
-pub takes_answer : (s : LineEnding) (label content : List ℕ) (number room : ℕ) → Takes label content → line_ending_of number ≡ Known s
+pub takes_answer : (s : LineEnding) (label content : List ℕ) (number room : ℕ) → Takes label content → line_ending_of number ≡ Some s
     → length (written_text s label content) ≤ room
-    → (write_of label content number room ≡ answer.Accepted (text_size (length (written_text s label content))))
+    → (write_of label content number room ≡ Ok (text_size (length (written_text s label content))))
     × (write_output label content number room ≡ written_text s label content ++ replicate (room - length (written_text s label content)) 0)
 takes_answer s label content number room t k h =
     let w = room_answer s label content _ room (sym (length_written s label content t.some_data)) h in
     let j = takes_judge s label content number t k in
     (ap (λ x. answered x room) j ∙ w.0, ap (λ x. filled x label content room) j ∙ w.1)
 
-takes_small : (s : LineEnding) (label content : List ℕ) (number room : ℕ) → Takes label content → line_ending_of number ≡ Known s
+takes_small : (s : LineEnding) (label content : List ℕ) (number room : ℕ) → Takes label content → line_ending_of number ≡ Some s
     → room < length (written_text s label content)
-    → (write_of label content number room ≡ answer.OutputTooSmall (text_size (length (written_text s label content))))
+    → (write_of label content number room ≡ Err (TooSmall (text_size (length (written_text s label content)))))
     × (write_output label content number room ≡ replicate room 0)
 takes_small s label content number room t k h =
     let w = small_answer s label content _ room (sym (length_written s label content t.some_data)) h in
@@ -193,7 +190,7 @@ pub write_means : (label content : List ℕ) (number room : ℕ) → All Octet c
     → Writes label content number room (write_of label content number room) (write_output label content number room)
 write_means label content number room octets = go (judge_of label content number) refl (judge_means label content number)
   where
-    fits : (s : LineEnding) → Takes label content → line_ending_of number ≡ Known s → (b : Bool) → ltb room (length (written_text s label content)) ≡ b
+    fits : (s : LineEnding) → Takes label content → line_ending_of number ≡ Some s → (b : Bool) → ltb room (length (written_text s label content)) ≡ b
         → Writes label content number room (write_of label content number room) (write_output label content number room)
     fits s t k true e =
         let w = takes_small s label content number room t k (ltb-true _ _ e) in
@@ -206,6 +203,18 @@ write_means label content number room octets = go (judge_of label content number
         → Writes label content number room (write_of label content number room) (write_output label content number room)
     go j e (takes s t k) = fits s t k (ltb room (length (written_text s label content))) refl
     go j e (refuses f) = rw e (rows.refused f)
+
+-- Any other answer than 0 leaves zeros.
+pub err_zeros : (label content : List ℕ) (number room : ℕ) → is_err (write_of label content number room) ≡ true → write_output label content number room ≡ replicate room 0
+err_zeros label content number room e = go (judge_of label content number) e
+  where
+    small : (b : Bool) (size : TextSize) (l : List ℕ) → is_err {T = TextSize} {E = CallError WriteRefusal TextSize} (cond b (Err (TooSmall size)) (Ok size)) ≡ true → cond b (replicate room 0) l ≡ replicate room 0
+    small true size l e = refl
+    small false size l e = absurd (false≢true e)
+
+    go : (j : Judgement) → is_err (answered j room) ≡ true → filled j label content room ≡ replicate room 0
+    go (Err r) e = refl
+    go (Ok t) e = small (too_small room t.size.0) t.size _ e
 
 -- The rows leave no other answer and no other output.
 pub writes_write : (label content : List ℕ) (number room : ℕ) (a : WriteAnswer) (o : List ℕ) → Writes label content number room a o

@@ -1,11 +1,11 @@
 -- A lent output in which a list is put from a place on, and the rest stays as it was. Assumes nothing.
 use mathlib.Core.Path.{◌≡◌, refl, sym, ap, ◌∙◌}
 use mathlib.Core.List.{List, [], ◌∷◌, ◌++◌, append_assoc}
-use Prim.Native.Nat.{ℕ, zero, suc, ◌+◌, ◌-◌, ◌≤◌, ◌<◌}
+use Prim.Native.Nat.{ℕ, suc, ◌+◌, ◌-◌, ◌≤◌, ◌<◌}
 use native.Mathlib.Omega.{arith}
-use native.Mathlib.Numerals.{add-one}
-use lib.ListN.{length, get_or, set, take, drop, replicate, length-append, length-drop, take-append-drop}
-use lib.Seq.{length-take-le, take-suc, take_at, drop_at, drop-drop, set_split, sets-eq}
+use lib.ListN.{length, set, take, drop, replicate, length-append, length-drop, take-append-drop}
+use borrow.Rule.Slice.PartMut.{put_mid}
+use lib.Seq.{length-take-le, take_at, drop_at, drop-drop, set_split, sets-eq}
 
 -- The output with the list from `at` on.
 abbrev pub placed : List ℕ → ℕ → List ℕ → List ℕ
@@ -41,18 +41,9 @@ placed_more out at a b h =
     (λ i. kept i ++ (b ++ (rest ∙ ap (λ (n : ℕ). drop n out) end) i))
     ∙ simp append_assoc
 
--- A byte more of a list that is put in byte by byte.
-pub placed_next : (out : List ℕ) (at : ℕ) (l : List ℕ) (i : ℕ) → at + length l ≤ length out → i < length l
-    → set (placed out at (take i l)) (at + i) (get_or l i 0) ≡ placed out at (take (i + 1) l)
-placed_next out at l i h k =
-    let some : length (take i l) ≡ i = length-take-le i l (omega arith) in
-    let more : take (i + 1) l ≡ take i l ++ (get_or l i 0 ∷ []) = ap (λ (n : ℕ). take n l) (add-one i) ∙ take-suc l i 0 k in
-    let short : at + length (take i l ++ (get_or l i 0 ∷ [])) ≤ length out = omega (arith, length-append (take i l) (get_or l i 0 ∷ [])) in
-    let room : at + i < length (placed out at (take i l)) = omega (arith, placed_length out at (take i l) (omega arith)) in
-    placed_one (placed out at (take i l)) (at + i) (get_or l i 0) room
-    ∙ ap (λ (n : ℕ). placed (placed out at (take i l)) (at + n) (get_or l i 0 ∷ [])) (sym some)
-    ∙ placed_more out at (take i l) (get_or l i 0 ∷ []) short
-    ∙ ap (placed out at) (sym more)
+-- A part that is written over.
+pub placed_part : (out : List ℕ) (at n : ℕ) (l : List ℕ) → n ≡ length l → put_mid at n out l ≡ placed out at l
+placed_part out at n l e = rw e (ap (λ (r : List ℕ). take at out ++ (l ++ r)) (drop-drop (length l) at out))
 
 -- Four stores in a row.
 pub placed_four : (out : List ℕ) (at a b c d : ℕ) → at + 4 ≤ length out
@@ -62,21 +53,6 @@ placed_four out at a b c d h =
     let two : at + 2 ≡ suc (suc at) = omega arith in
     let three : at + 3 ≡ suc (suc (suc at)) = omega arith in
     rw (one, two, three) (sets-eq (a ∷ b ∷ c ∷ d ∷ []) out at h ∙ append_assoc (take at out) (a ∷ b ∷ c ∷ d ∷ []) (drop (at + 4) out))
-
--- A list by its places.
-abbrev places : List ℕ → ℕ → ℕ → List ℕ
-places l k zero = []
-places l k (suc n) = get_or l k 0 ∷ places l (suc k) n
-
-places_behind : (x : ℕ) (l : List ℕ) (k n : ℕ) → places l k n ≡ places (x ∷ l) (suc k) n
-places_behind x l k zero = refl
-places_behind x l k (suc n) = ap (λ (r : List ℕ). get_or l k 0 ∷ r) (places_behind x l (suc k) n)
-
-pub by_places : (l : List ℕ) (n : ℕ) → length l ≡ n → l ≡ places l 0 n
-by_places [] zero h = refl
-by_places [] (suc n) h = absurd (omega arith)
-by_places (x ∷ l) zero h = absurd (omega arith)
-by_places (x ∷ l) (suc n) h = ap (λ (r : List ℕ). x ∷ r) (by_places l n (omega arith) ∙ places_behind x l 0 n)
 
 -- ---- what a function has done that puts a list into the output
 
@@ -88,8 +64,8 @@ pub record Put (old : List ℕ) (at : ℕ) (l new : List ℕ) (end : ℕ) : Type
 pub put_none : (out : List ℕ) (at : ℕ) → Put out at [] out at
 put_none out at = record { output = placed_none out at; ends = omega arith }
 
-pub put_one : (out : List ℕ) (at c : ℕ) → at < length out → Put out at (c ∷ []) (set out at c) (at + 1)
-put_one out at c h = record { output = placed_one out at c h; ends = refl }
+pub put_size : {old new l : List ℕ} {at end : ℕ} → Put old at l new end → at + length l ≤ length old → length new ≡ length old
+put_size {old} {l = l} {at = at} p h = ap length p.output ∙ placed_length old at l h
 
 pub put_more : {old mid new : List ℕ} {at next end : ℕ} (a b : List ℕ) → Put old at a mid next → Put mid next b new end → at + length (a ++ b) ≤ length old
     → Put old at (a ++ b) new end

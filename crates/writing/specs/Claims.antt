@@ -1,6 +1,6 @@
 -- What demands 2 and 3 say of the write call, on the definitions that the promises of the write, read and label calls equal.
 -- Assumes nothing.
-use Rattle.std.specs.Prelude.{◌≡◌, List, [], ◌∷◌, ◌++◌, ℕ, ◌-◌, ◌≤◌, length, take, replicate}
+use Rattle.std.specs.Prelude.{◌≡◌, List, [], ◌∷◌, ◌++◌, ℕ, ◌-◌, ◌≤◌, length, take, replicate, Some, Ok}
 use Rattle.base_64.specs.Lists.{All}
 use Rattle.base_64.specs.Alphabet.{Octet}
 use Rattle.grammar.specs.Marks.{begin}
@@ -11,30 +11,26 @@ use Rattle.grammar.specs.Bundle.{Item}
 use Rattle.grammar.specs.declared.LineEnding.{LineEnding}
 use Rattle.grammar.specs.declared.LineEnding.TheVariants.{Lf, CrLf, Cr}
 use Rattle.grammar.specs.declared.Grammar.{Grammar}
-use Rattle.grammar.specs.declared.Numbered.TheVariants.{Known}
-use Rattle.grammar.specs.declared.NumberedEnding.TheVariants as end
 use Rattle.grammar.specs.declared.LineStyle.TheVariants.{Only}
 use Rattle.reading.specs.Limits.{text_limit, label_limit}
 use Rattle.reading.specs.Answers as reader
-use Rattle.reading.specs.Answers.{byte_count, span, family}
+use Rattle.reading.specs.Answers.{byte_count, span}
 use Rattle.reading.specs.Read.{read_of, output_of, label_of}
-use Rattle.reading.specs.declared.ReadAnswer.TheVariants as read
 use Rattle.writing.specs.Limits.{data_limit}
 use Rattle.writing.specs.Answers.{text_size, number_of, size_of}
 use Rattle.writing.specs.Text.{written_size}
 use Rattle.writing.specs.Meaning.{Refuses, Takes, StrictText}
 use Rattle.writing.specs.Write.{write_of, write_output}
-use Rattle.writing.specs.declared.WriteAnswer.TheVariants.{Accepted}
 use Rattle.writing.specs.declared.WriteRefusal.{WriteRefusal}
 
 -- ---- One message
 
 -- The writer takes a label and data, and the number is that of a style, exactly where none of 11 to 14 and 20 applies.
 pub record TakesExactly : Type 0 where
-  pub only : (label content : List ℕ) (number : ℕ) (s : LineEnding) → Takes label content → line_ending_of number ≡ end.Known s → (refusal : WriteRefusal)
+  pub only : (label content : List ℕ) (number : ℕ) (s : LineEnding) → Takes label content → line_ending_of number ≡ Some s → (refusal : WriteRefusal)
       → ¬ Refuses label content number refusal
   pub always : (label content : List ℕ) (number : ℕ) → ((refusal : WriteRefusal) → ¬ Refuses label content number refusal)
-      → Takes label content × ((s : LineEnding) × (line_ending_of number ≡ end.Known s))
+      → Takes label content × ((s : LineEnding) × (line_ending_of number ≡ Some s))
 
 -- It answers 0 with this text: so many bytes, and then zeros.
 pub record AnswersZero (label content : List ℕ) (number room : ℕ) (text : List ℕ) : Type 0 where
@@ -47,7 +43,7 @@ pub record AnswersZero (label content : List ℕ) (number room : ℕ) (text : Li
 pub record Writable (label content : List ℕ) (number room : ℕ) (text : List ℕ) : Type 0 where
   pub takes : Takes label content
   pub style : LineEnding
-  pub known : line_ending_of number ≡ end.Known style
+  pub known : line_ending_of number ≡ Some style
   pub strict : StrictText style text label content
   pub fits : length text ≤ room
 
@@ -61,7 +57,7 @@ pub record ZeroExactly : Type 0 where
       → AnswersZero label content number room text
   pub some : (label content : List ℕ) (number room : ℕ) → number_of (write_of label content number room) ≡ 0
       → (text : List ℕ) × AnswersZero label content number room text
-  pub each : (label content : List ℕ) (number room : ℕ) (s : LineEnding) → Takes label content → line_ending_of number ≡ end.Known s
+  pub each : (label content : List ℕ) (number room : ℕ) (s : LineEnding) → Takes label content → line_ending_of number ≡ Some s
       → written_size s (length label) (length content) ≤ room → number_of (write_of label content number room) ≡ 0
 
 -- The text is the writer's result for the label and data in a style, given room: the call answers 0, and the text is the first
@@ -80,8 +76,8 @@ WrittenLength = (s : LineEnding) (label content text : List ℕ) → Written s l
 abbrev pub ReadsBack : Type 0
 ReadsBack =
     (s : LineEnding) (label content text : List ℕ) → All Octet content → Written s label content text
-    → (number : ℕ) (g : Grammar) → grammar_of number ≡ Known g → (room : ℕ) → length content ≤ room
-    → (read_of text number room ≡ read.Accepted record { size = byte_count (length content); label = span (length begin) (length label); family = family (family_of label) } (Only s))
+    → (number : ℕ) (g : Grammar) → grammar_of number ≡ Some g → (room : ℕ) → length content ≤ room
+    → (read_of text number room ≡ Ok record { found = record { size = byte_count (length content); label = span (length begin) (length label); family = family_of label }; style = Only s })
     × (output_of text number room ≡ content ++ replicate (room - length content) 0)
     × (label_of text number ≡ label)
 
@@ -97,7 +93,7 @@ Restores =
     (text : List ℕ) (room : ℕ) (s : LineEnding) → reader.number_of (read_of text strict_number room) ≡ 0
     → reader.line_style_of (read_of text strict_number room) ≡ line_ending_number s
     → reader.size_of (read_of text strict_number room) ≤ data_limit → (out_room : ℕ) → length text ≤ out_room
-    → (write_of (label_of text strict_number) (data_read text room) (line_ending_number s) out_room ≡ Accepted (text_size (length text)))
+    → (write_of (label_of text strict_number) (data_read text room) (line_ending_number s) out_room ≡ Ok (text_size (length text)))
     × (write_output (label_of text strict_number) (data_read text room) (line_ending_number s) out_room ≡ text ++ replicate (out_room - length text) 0)
 
 -- The largest text that is written. (44,535 bytes in the requirements, before their change request K4; under CRLF each of its

@@ -3,14 +3,18 @@
 // another. The crate `writer` has the code.
 #![tactic(auto)]
 
+ghost use Rattle.std.specs.Prelude.{◌≡◌};
+ghost use Rattle.writing.specs.Answers.{refusal_number};
+
 use grammar::LineEnding;
+use output::CallError;
 
 // How many bytes a text has or needs.
-#[derive(Clone, Copy)]
+#[derive(Clone, Copy, Debug, PartialEq, Eq)]
 pub struct TextSize(pub usize);
 
 // The refusals 11 to 14 and 20 of the requirements, in their order. Their place is always 0.
-#[derive(Clone, Copy)]
+#[derive(Clone, Copy, Debug, PartialEq, Eq)]
 pub enum WriteRefusal {
     LabelTooLong,
     NotALabel,
@@ -19,27 +23,28 @@ pub enum WriteRefusal {
     UnknownStyle,
 }
 
-// The checks 11 to 14 and 20: all passed, by these line ends, and the text has so many bytes; or the first that did not.
-#[derive(Clone, Copy)]
-pub enum Judgement {
-    Taken(LineEnding, TextSize),
-    Refused(WriteRefusal),
+impl WriteRefusal {
+    // The requirements' number of the refusal.
+    pub fn number(self) -> u32
+        ensures { result ≡ refusal_number self }
+    {
+        match self {
+            WriteRefusal::LabelTooLong => 11,
+            WriteRefusal::NotALabel => 12,
+            WriteRefusal::NoData => 13,
+            WriteRefusal::DataTooLong => 14,
+            WriteRefusal::UnknownStyle => 20,
+        }
+    }
 }
 
-// The answer of `write`.
-#[derive(Clone, Copy)]
-pub enum WriteAnswer {
-    // 0: the output holds the text, and then zeros.
-    Accepted(TextSize),
-    // 11 to 14, 20: the output is zeros.
-    Refused(WriteRefusal),
-    // 10: the output is zeros; the size is what the text needs.
-    OutputTooSmall(TextSize),
+// A label, data and a style that pass the checks 11 to 14 and 20: the line ends, and how many bytes the text has.
+#[derive(Clone, Copy, Debug, PartialEq, Eq)]
+pub struct Taken {
+    pub ending: LineEnding,
+    pub size: TextSize,
 }
 
-// Where the next character of the lines is written, and how many more its line has room for.
-#[derive(Clone, Copy)]
-pub struct Cursor {
-    pub at: usize,
-    pub room: usize,
-}
+// The answer of `write`. `Ok` is 0: the output holds the text, and then zeros. `Refused` is 11 to 14 or 20 and `TooSmall` 10, with the
+// size that the text needs: the output is zeros.
+pub type WriteAnswer = Result<TextSize, CallError<WriteRefusal, TextSize>>;
