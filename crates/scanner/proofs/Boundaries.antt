@@ -15,25 +15,31 @@ use Rattle.grammar.specs.declared.Grammar.TheVariants as grammar
 use Rattle.machine.proofs.ByteKinds.{kind_of}
 use Rattle.machine.proofs.Bytes as seen
 use Rattle.machine.proofs.Bytes.{View, view}
-use Rattle.machine.proofs.Machine.{state, next, part_of, boundary_part, byte_part, dead, word_of, label_row, label_target, behind}
+use Rattle.machine.proofs.Machine.{state, next, part_of, boundary_part, byte_part, dead, word_of, label_row, label_target, label_ends, behind}
 use Rattle.machine.specs.declared.Boundary.{Boundary}
 use Rattle.machine.specs.declared.Boundary.TheVariants.{Opening, Closing}
 use Rattle.machine.specs.declared.Kind.{Kind}
 use Rattle.machine.specs.declared.LabelPhase.{LabelPhase}
-use Rattle.machine.specs.declared.LabelPhase.TheVariants.{Start, Char, Hyphen, One, Two, Three, Four}
+use Rattle.machine.specs.declared.LabelPhase.TheVariants.{Start, Char, Space, Hyphen, One, Two, Three, Four}
 use Rattle.machine.specs.declared.LabelTarget.TheVariants.{To}
 use Rattle.machine.specs.declared.LabelRow.{LabelRow}
 use Rattle.machine.specs.declared.Part.{Part}
 use Rattle.machine.specs.declared.State.{State}
 use Rattle.machine.specs.declared.Phase.{Phase}
 use Rattle.machine.specs.declared.Phase.TheVariants.{Word, Label}
+use Rattle.scanner.specs.declared.Position.{Position}
 use Rattle.reading.specs.declared.Tally.{Tally}
 use Rattle.reading.specs.Scan.{tallied}
 use Rattle.runs.specs.Runs.{Stands, LabelRun}
-use Rattle.scanner.specs.Advances.{Advanced, Countable, boundary_tallied, ended_tallied}
+use Rattle.scanner.specs.Advances.{place, in_phase, Advanced, Countable, boundary_tallied, ended_tallied}
 use Rattle.leaps.specs.Phases.{Closes}
 use Rattle.scanner.specs.Phases.{Continues}
 use Rattle.scanner.proofs.Advances.{advanced_then, advanced_byte, advanced_plain, step_moves}
+
+-- A position by its phase.
+with_phase : {g : Grammar} {text : List ℕ} (p : Position) {q : Phase} {r : Position} → p.state.phase ≡ q → Advanced g text (place p.at (state q p.state.cr) p.tally) r
+    → Advanced g text p r
+with_phase {g} {text} p {r = r} e l = subst (λ (q : Phase). Advanced g text (place p.at (state q p.state.cr) p.tally) r) (sym e) l
 
 -- A byte leads from one phase of a boundary on.
 record Inner (g : Grammar) (b : Boundary) (p q : Phase) (c : ℕ) : Type 0 where
@@ -53,7 +59,7 @@ boundary_more Closing m n t = let e : t.closing + m + n ≡ t.closing + (m + n) 
 
 module _ {g : Grammar} {text : List ℕ} {b : Boundary} where
   advanced_inner : {p q : Phase} (cr : Bool) (t : Tally) (i : ℕ) → i < length text → Inner g b p q (get_or text i 0)
-      → Advanced g text (state p cr) t i (state q false) (boundary_tallied b 1 t) (i + 1)
+      → Advanced g text (place i (state p cr) t) (in_phase (i + 1) q (boundary_tallied b 1 t))
   advanced_inner {p} {q} cr t i h w =
       advanced_plain (state p cr) t i (state q false) (boundary_tallied b 1 t) h
       (step_moves g p cr (get_or text i 0) w.no_lf ∙ rw (w.leads, w.no_cr))
@@ -64,8 +70,8 @@ module _ {g : Grammar} {text : List ℕ} {b : Boundary} where
 
   -- One byte, and then more of the same boundary.
   inner_then : {p q r : Phase} (cr : Bool) (t : Tally) (i n j : ℕ) → i < length text → Inner g b p q (get_or text i 0)
-      → Advanced g text (state q false) (boundary_tallied b 1 t) (i + 1) (state r false) (boundary_tallied b n (boundary_tallied b 1 t)) j
-      → (m : ℕ) → m ≡ 1 + n → Advanced g text (state p cr) t i (state r false) (boundary_tallied b m t) j
+      → Advanced g text (in_phase (i + 1) q (boundary_tallied b 1 t)) (in_phase j r (boundary_tallied b n (boundary_tallied b 1 t)))
+      → (m : ℕ) → m ≡ 1 + n → Advanced g text (place i (state p cr) t) (in_phase j r (boundary_tallied b m t))
   inner_then cr t i n j h w l m e = advanced_then (advanced_inner cr t i h w) (rw (e, ← boundary_more b 1 n t) l)
 
 -- ---- "-----BEGIN " and "-----END "
@@ -113,7 +119,7 @@ stands_rest {text} {i} {word} {n} s h = record {
 
 -- What is left of the word, in m + 1 bytes.
 word_run : {g : Grammar} {text : List ℕ} (b : Boundary) (m n : ℕ) → n + suc m ≡ length (word_of b) → (cr : Bool) (t : Tally) (i : ℕ) → Stands text i (word_of b) n
-    → Advanced g text (state (Word b n) cr) t i (state (Label b Start) false) (boundary_tallied b (suc m) t) (i + suc m)
+    → Advanced g text (place i (state (Word b n) cr) t) (in_phase (i + suc m) (Label b Start) (boundary_tallied b (suc m) t))
 word_run {g} {text} b zero n h cr t i s =
     advanced_inner cr t i (omega (arith, s.room)) (word_last g b n (get_or text i 0) (omega arith) (stands_first s (omega arith)))
 word_run {g} {text} b (suc m) n h cr t i s =
@@ -122,11 +128,11 @@ word_run {g} {text} b (suc m) n h cr t i s =
     (rw end at (word_run {g = g} b m (suc n) (omega arith) false (boundary_tallied b 1 t) (i + 1) (stands_rest s (omega arith))))
     (suc (suc m)) (omega arith)
 
-pub word_leap : {g : Grammar} {text : List ℕ} (b : Boundary) (n : ℕ) → n < length (word_of b) → (cr : Bool) (t : Tally) (i : ℕ) → Stands text i (word_of b) n
-    → Advanced g text (state (Word b n) cr) t i (state (Label b Start) false) (boundary_tallied b (length (word_of b) - n) t) (i + (length (word_of b) - n))
-word_leap {g} b n h cr t i s =
+pub word_leap : {g : Grammar} {text : List ℕ} (b : Boundary) (n : ℕ) (p : Position) → p.state.phase ≡ Word b n → n < length (word_of b) → Stands text p.at (word_of b) n
+    → Advanced g text p (in_phase (p.at + (length (word_of b) - n)) (Label b Start) (boundary_tallied b (length (word_of b) - n) p.tally))
+word_leap {g} b n p f h s =
     let e : suc (length (word_of b) - n - 1) ≡ length (word_of b) - n = omega arith in
-    rw e at (word_run {g = g} b (length (word_of b) - n - 1) n (omega arith) cr t i s)
+    with_phase p f (rw e at (word_run {g = g} b (length (word_of b) - n - 1) n (omega arith) p.state.cr p.tally p.at s))
 
 -- ---- A label, and five hyphens
 
@@ -165,7 +171,7 @@ label_inner g b p c e h =
     record { from = refl; alive = refl; leads = rw (s.way, e); no_lf = s.no_lf; no_cr = s.no_cr }
 
 label_more : {g : Grammar} {text : List ℕ} (b : Boundary) (m : ℕ) (p : LabelPhase) → (label_row p).char ≡ To Char → (cr : Bool) (t : Tally) (i : ℕ) → i + suc m ≤ length text
-    → LabelRun text i (i + suc m) → Advanced g text (state (Label b p) cr) t i (state (Label b Char) false) (boundary_tallied b (suc m) t) (i + suc m)
+    → LabelRun text i (i + suc m) → Advanced g text (place i (state (Label b p) cr) t) (in_phase (i + suc m) (Label b Char) (boundary_tallied b (suc m) t))
 label_more {g} {text} b zero p e cr t i h a = advanced_inner cr t i (omega arith) (label_inner g b p (get_or text i 0) e (a.all i (omega arith) (omega arith)))
 label_more {g} {text} b (suc m) p e cr t i h a =
     let end : i + 1 + suc m ≡ i + suc (suc m) = omega arith in
@@ -173,8 +179,8 @@ label_more {g} {text} b (suc m) p e cr t i h a =
     (rw end at (label_more {g = g} {text = text} b m Char refl false (boundary_tallied b 1 t) (i + 1) (omega arith) (record { all = λ k low high. a.all k (omega arith) (omega arith) })))
     (suc (suc m)) (omega arith)
 
-pub label_leap : {g : Grammar} {text : List ℕ} (b : Boundary) (p : LabelPhase) → (label_row p).char ≡ To Char → (cr : Bool) (t : Tally) (i j : ℕ) → i < j → j ≤ length text
-    → LabelRun text i j → Advanced g text (state (Label b p) cr) t i (state (Label b Char) false) (boundary_tallied b (j - i) t) j
+label_leap : {g : Grammar} {text : List ℕ} (b : Boundary) (p : LabelPhase) → (label_row p).char ≡ To Char → (cr : Bool) (t : Tally) (i j : ℕ) → i < j → j ≤ length text
+    → LabelRun text i j → Advanced g text (place i (state (Label b p) cr) t) (in_phase j (Label b Char) (boundary_tallied b (j - i) t))
 label_leap {g} {text} b p e cr t i j h inside a =
     let count : suc (j - i - 1) ≡ j - i = omega arith in
     let end : i + (j - i) ≡ j = omega arith in
@@ -201,8 +207,8 @@ hyphen_at {text} {i} s k h =
     (rw e at (s.there k (omega arith) h)) ∙ eqb→eq _ _ (below_at (λ n. eqb (get_or hyphens n 0) hyphen) 5 tt k h)
 
 -- The five hyphens behind a label, or without one.
-pub hyphens_leap : {g : Grammar} {text : List ℕ} (b : Boundary) (p q : LabelPhase) → (label_row p).hyphen ≡ To q → (label_row q).hyphen ≡ To Two → (cr : Bool) (t : Tally) (i : ℕ)
-    → Stands text i hyphens 0 → Advanced g text (state (Label b p) cr) t i (state (behind g b) false) (boundary_tallied b 5 t) (i + 5)
+hyphens_leap : {g : Grammar} {text : List ℕ} (b : Boundary) (p q : LabelPhase) → (label_row p).hyphen ≡ To q → (label_row q).hyphen ≡ To Two → (cr : Bool) (t : Tally) (i : ℕ)
+    → Stands text i hyphens 0 → Advanced g text (place i (state (Label b p) cr) t) (in_phase (i + 5) (behind g b) (boundary_tallied b 5 t))
 hyphens_leap {g} {text} b p q ep eq cr t i s =
     let room : i + 5 ≤ length text = omega (arith, s.room) in
     let at : (k : ℕ) → k < 5 → get_or text (i + k) 0 ≡ hyphen = λ k h. hyphen_at s k h in
@@ -223,62 +229,68 @@ hyphens_leap {g} {text} b p q ep eq cr t i s =
     2 refl)) 3 refl)) 4 refl)
     5 refl
 
-pub continues_start : Continues Start
-continues_start = record { q = One; char = refl; first = refl; second = refl }
+-- Where a label may end it may also go on.
+pub continues : (b : Boundary) (l : LabelPhase) → label_ends l ≡ true → Continues b (Label b l)
+continues b Start e = record { label = Start; is = refl; char = refl; next = One; first = refl; second = refl }
+continues b Char e = record { label = Char; is = refl; char = refl; next = Hyphen; first = refl; second = refl }
+continues b Space e = cc
+continues b Hyphen e = cc
+continues b One e = cc
+continues b Two e = cc
+continues b Three e = cc
+continues b Four e = cc
 
-pub continues_char : Continues Char
-continues_char = record { q = Hyphen; char = refl; first = refl; second = refl }
+module _ {g : Grammar} {text : List ℕ} {b : Boundary} (p : Position) (w : Continues b p.state.phase) (j : ℕ) (inside : j ≤ length text) (a : LabelRun text p.at j) where
+  -- Characters of a label.
+  pub label_characters : p.at < j → Advanced g text p (in_phase j (Label b Char) (boundary_tallied b (j - p.at) p.tally))
+  label_characters h = with_phase p w.is (label_leap b w.label w.char p.state.cr p.tally p.at j h inside a)
 
--- Characters of a label, if any, and the five hyphens.
-pub label_through : {g : Grammar} {text : List ℕ} (b : Boundary) (p : LabelPhase) → Continues p → (cr : Bool) (t : Tally) (i j : ℕ) → i ≤ j → j ≤ length text → LabelRun text i j
-    → Stands text j hyphens 0 → Advanced g text (state (Label b p) cr) t i (state (behind g b) false) (boundary_tallied b (j + 5 - i) t) (j + 5)
-label_through {g} {text} b p f cr t i j h inside a s = go (eqb i j) refl
-  where
-    go : (d : Bool) → eqb i j ≡ d → Advanced g text (state (Label b p) cr) t i (state (behind g b) false) (boundary_tallied b (j + 5 - i) t) (j + 5)
-    go true e =
-        let same : i ≡ j = eqb-true i j e in
-        let five : j + 5 - i ≡ 5 = omega arith in
-        rw (five, ← same) (hyphens_leap b p f.q f.first f.second cr t i (rw (← same) at s))
-    go false e =
-        let other : ¬ (i ≡ j) = eqb-false i j e in
-        let sum : j + 5 - i ≡ j - i + 5 = omega arith in
-        rw (sum, ← boundary_more b (j - i) 5 t)
-        (advanced_then (label_leap b p f.char cr t i j (omega arith) inside a) (hyphens_leap b Char Hyphen refl refl false (boundary_tallied b (j - i) t) j s))
-
--- A state by its phase.
-pub with_phase : {g : Grammar} {text : List ℕ} (s : State) {p : Phase} {t : Tally} {i : ℕ} {s' : State} {t' : Tally} {j : ℕ} → s.phase ≡ p
-    → Advanced g text (state p s.cr) t i s' t' j → Advanced g text s t i s' t' j
-with_phase {g} {text} s {t = t} {i = i} {s' = s'} {t' = t'} {j = j} e l = subst (λ (q : Phase). Advanced g text (state q s.cr) t i s' t' j) (sym e) l
+  -- Characters of a label, if any, and the five hyphens.
+  pub label_through : p.at ≤ j → Stands text j hyphens 0 → Advanced g text p (in_phase (j + 5) (behind g b) (boundary_tallied b (j + 5 - p.at) p.tally))
+  label_through h s = go (eqb p.at j) refl
+    where
+      go : (d : Bool) → eqb p.at j ≡ d → Advanced g text p (in_phase (j + 5) (behind g b) (boundary_tallied b (j + 5 - p.at) p.tally))
+      go true e =
+          let same : p.at ≡ j = eqb-true p.at j e in
+          let five : j + 5 - p.at ≡ 5 = omega arith in
+          rw (five, ← same) (with_phase p w.is (hyphens_leap b w.label w.next w.first w.second p.state.cr p.tally p.at (rw (← same) at s)))
+      go false e =
+          let other : ¬ (p.at ≡ j) = eqb-false p.at j e in
+          let sum : j + 5 - p.at ≡ j - p.at + 5 = omega arith in
+          rw (sum, ← boundary_more b (j - p.at) 5 p.tally)
+          (advanced_then (label_characters (omega arith)) (hyphens_leap b Char Hyphen refl refl false (boundary_tallied b (j - p.at) p.tally) j s))
 
 -- ---- The LF behind a boundary, and the hyphen before the closing
 
-pub ended_leap : {text : List ℕ} (g : Grammar) (b : Boundary) (t : Tally) (i : ℕ) → i < length text → get_or text i 0 ≡ LF
-    → Advanced g text (state (behind g b) false) t i (state (next g (behind g b) LF) false) (ended_tallied b t) (i + 1)
-ended_leap {text} g b t i h e = go g b
+pub ended_leap : {text : List ℕ} (g : Grammar) (b : Boundary) (p : Position) → p.state ≡ state (behind g b) false → p.at < length text → get_or text p.at 0 ≡ LF
+    → Advanced g text p (in_phase (p.at + 1) (next g (behind g b) LF) (ended_tallied b p.tally))
+ended_leap {text} g b p there h e = subst (λ (s : State). Advanced g text (place p.at s p.tally) (in_phase (p.at + 1) (next g (behind g b) LF) (ended_tallied b p.tally))) (sym there) (go g b)
   where
-    pairs : t.ends.crlf + 0 ≡ t.ends.crlf
+    pairs : p.tally.ends.crlf + 0 ≡ p.tally.ends.crlf
     pairs = omega arith
 
-    crs : t.ends.cr + 0 ≡ t.ends.cr
+    crs : p.tally.ends.cr + 0 ≡ p.tally.ends.cr
     crs = omega arith
 
-    go : (g : Grammar) (b : Boundary) → Advanced g text (state (behind g b) false) t i (state (next g (behind g b) LF) false) (ended_tallied b t) (i + 1)
-    go grammar.Lax Opening = advanced_byte _ t i _ _ h (rw e) refl (rw (e, pairs, crs))
-    go grammar.Standard Opening = advanced_byte _ t i _ _ h (rw e) refl (rw (e, pairs, crs))
-    go grammar.Strict Opening = advanced_byte _ t i _ _ h (rw e) refl (rw (e, pairs, crs))
-    go grammar.Lax Closing = advanced_byte _ t i _ _ h (rw e) refl (rw (e, pairs, crs))
-    go grammar.Standard Closing = advanced_byte _ t i _ _ h (rw e) refl (rw (e, pairs, crs))
-    go grammar.Strict Closing = advanced_byte _ t i _ _ h (rw e) refl (rw (e, pairs, crs))
+    go : (g : Grammar) (b : Boundary) → Advanced g text (in_phase p.at (behind g b) p.tally) (in_phase (p.at + 1) (next g (behind g b) LF) (ended_tallied b p.tally))
+    go grammar.Lax Opening = advanced_byte _ p.tally p.at _ _ h (rw e) refl (rw (e, pairs, crs))
+    go grammar.Standard Opening = advanced_byte _ p.tally p.at _ _ h (rw e) refl (rw (e, pairs, crs))
+    go grammar.Strict Opening = advanced_byte _ p.tally p.at _ _ h (rw e) refl (rw (e, pairs, crs))
+    go grammar.Lax Closing = advanced_byte _ p.tally p.at _ _ h (rw e) refl (rw (e, pairs, crs))
+    go grammar.Standard Closing = advanced_byte _ p.tally p.at _ _ h (rw e) refl (rw (e, pairs, crs))
+    go grammar.Strict Closing = advanced_byte _ p.tally p.at _ _ h (rw e) refl (rw (e, pairs, crs))
 
-pub closing_leap : {g : Grammar} {text : List ℕ} {p : Phase} → Closes p → (cr : Bool) (t : Tally) (i : ℕ) → i < length text → get_or text i 0 ≡ hyphen
-    → Advanced g text (state p cr) t i (state (Word Closing 1) false) (boundary_tallied Closing 1 t) (i + 1)
-closing_leap {g} {text} {p} w cr t i h e =
-    let no_lf : eqb (get_or text i 0) LF ≡ false = rw e in
-    let no_cr : eqb (get_or text i 0) CR ≡ false = rw e in
-    let leads : next g p (get_or text i 0) ≡ Word Closing 1 = rw e (w.leads g) in
-    advanced_plain (state p cr) t i (state (Word Closing 1) false) (boundary_tallied Closing 1 t) h (step_moves g p cr (get_or text i 0) no_lf ∙ rw (leads, no_cr)) refl no_lf no_cr (rw w.from)
+pub closing_leap : {g : Grammar} {text : List ℕ} (p : Position) → Closes p.state.phase → p.at < length text → get_or text p.at 0 ≡ hyphen
+    → Advanced g text p (in_phase (p.at + 1) (Word Closing 1) (boundary_tallied Closing 1 p.tally))
+closing_leap {g} {text} p w h e =
+    let no_lf : eqb (get_or text p.at 0) LF ≡ false = rw e in
+    let no_cr : eqb (get_or text p.at 0) CR ≡ false = rw e in
+    let leads : next g p.state.phase (get_or text p.at 0) ≡ Word Closing 1 = rw e (w.leads g) in
+    advanced_plain p.state p.tally p.at (state (Word Closing 1) false) (boundary_tallied Closing 1 p.tally) h
+    (step_moves g p.state.phase p.state.cr (get_or text p.at 0) no_lf ∙ rw (leads, no_cr)) refl no_lf no_cr (rw w.from)
 
 -- Bytes of a boundary leave the rest countable.
-pub boundary_countable : (text : List ℕ) (b : Boundary) (n : ℕ) (t : Tally) (i j : ℕ) → Countable text t i → j ≡ i + n → j ≤ length text → Countable text (boundary_tallied b n t) j
-boundary_countable text Opening n t i j h e inside = omega arith
-boundary_countable text Closing n t i j h e inside = omega arith
+pub boundary_countable : (text : List ℕ) (b : Boundary) (n : ℕ) (p : Position) (q : Phase) {j : ℕ} → Countable text p → j ≡ p.at + n → j ≤ length text
+    → Countable text (in_phase j q (boundary_tallied b n p.tally))
+boundary_countable text Opening n p q h e inside = omega arith
+boundary_countable text Closing n p q h e inside = omega arith

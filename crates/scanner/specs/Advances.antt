@@ -11,36 +11,51 @@ use Rattle.reading.specs.Ends.{ends}
 use Rattle.reading.specs.Scan.{tally, with_ends, stopped, scan_of}
 use Rattle.reading.specs.declared.EndCounts.{EndCounts}
 use Rattle.reading.proofs.Scans.{Within}
+use Rattle.runs.specs.declared.Lines.{Lines}
 use Rattle.scanner.specs.declared.Position.{Position}
-
-abbrev pub position_at : ℕ → State → Tally → Position
-position_at i s t = record { at = i; state = s; tally = t }
+use Rattle.scanner.specs.declared.Scanner.{Scanner}
 
 -- ---- Positions of a scan
 
--- From the place i to the place j of a text: the scan from either is the same, however many bytes were counted before.
-pub record Advanced (g : Grammar) (text : List ℕ) (s : State) (t : Tally) (i : ℕ) (s' : State) (t' : Tally) (j : ℕ) : Type 0 where
-  pub forward : i ≤ j
-  pub inside : j ≤ length text
-  pub within : (n : ℕ) → Within t n → Within t' (n + (j - i))
-  pub ahead : (n : ℕ) → scan_of g s n t (drop i text) ≡ scan_of g s' (n + (j - i)) t' (drop j text)
+abbrev pub place : ℕ → State → Tally → Position
+place i s t = record { at = i; state = s; tally = t }
+
+-- Behind a byte that is no CR.
+abbrev pub in_phase : ℕ → Phase → Tally → Position
+in_phase i p t = place i (state p false) t
+
+-- From one position in a text to another: the scan from either is the same, however many bytes were counted before.
+pub record Advanced (g : Grammar) (text : List ℕ) (p q : Position) : Type 0 where
+  pub forward : p.at ≤ q.at
+  pub inside : q.at ≤ length text
+  pub within : (n : ℕ) → Within p.tally n → Within q.tally (n + (q.at - p.at))
+  pub ahead : (n : ℕ) → scan_of g p.state n p.tally (drop p.at text) ≡ scan_of g q.state (n + (q.at - p.at)) q.tally (drop q.at text)
 
 -- The scan goes no further: the machine dies of the next byte, or the text ends.
-pub record Stopped (g : Grammar) (text : List ℕ) (s : State) (t : Tally) (i : ℕ) : Type 0 where
-  pub ends : (n : ℕ) → scan_of g s n t (drop i text) ≡ stopped s n t
+pub record Stopped (g : Grammar) (text : List ℕ) (p : Position) : Type 0 where
+  pub ends : (n : ℕ) → scan_of g p.state n p.tally (drop p.at text) ≡ stopped p.state n p.tally
+
+-- The same of a scanner's text, by its grammar.
+abbrev pub Reaches : Scanner → Position → Position → Type 0
+Reaches s p q = Advanced s.grammar s.text.now p q
+
+abbrev pub Stops : Scanner → Position → Type 0
+Stops s p = Stopped s.grammar s.text.now p
 
 -- What code that counts has to know: the rest of the text can be added.
-abbrev pub Countable : List ℕ → Tally → ℕ → Type 0
-Countable text t i =
-    (i ≤ length text)
-    × (t.body + (length text - i) < 2 ^ 64)
-    × (t.characters + (length text - i) < 2 ^ 64)
-    × (t.opening + (length text - i) < 2 ^ 64)
-    × (t.closing + (length text - i) < 2 ^ 64)
-    × (t.pads + (length text - i) < 2 ^ 64)
-    × (t.ends.lf + (length text - i) < 2 ^ 64)
-    × (t.ends.crlf + (length text - i) < 2 ^ 64)
-    × (t.ends.cr + (length text - i) < 2 ^ 64)
+abbrev pub Countable : List ℕ → Position → Type 0
+Countable text p =
+    let rest = length text - p.at in
+    let t = p.tally in
+    (p.at ≤ length text)
+    × (t.body + rest < 2 ^ 64)
+    × (t.characters + rest < 2 ^ 64)
+    × (t.opening + rest < 2 ^ 64)
+    × (t.closing + rest < 2 ^ 64)
+    × (t.pads + rest < 2 ^ 64)
+    × (t.ends.lf + rest < 2 ^ 64)
+    × (t.ends.crlf + rest < 2 ^ 64)
+    × (t.ends.cr + rest < 2 ^ 64)
 
 -- ---- Tallies of runs
 
@@ -68,21 +83,25 @@ EndsFit e lf crlf = (e.lf + lf < 2 ^ 64) × (e.crlf + crlf < 2 ^ 64) × (e.cr + 
 abbrev pub width_tallied : ℕ → Tally → Tally
 width_tallied n t = ends_tallied (2 - n) (n - 1) t
 
--- Lines of so many groups from i up to j, of which the last one's characters end at m, with so many line ends, counted.
-abbrev pub lines_tallied : (i j groups m lf crlf : ℕ) → Tally → Tally
-lines_tallied i j groups m lf crlf t =
-    ends_tallied lf crlf
-    (tally t.before t.opening (t.body + (j - i)) t.closing (t.characters + 4 * groups) t.pads (t.body + (m - i) - 1) t.ends)
+-- Lines of whole groups from i on, counted.
+abbrev pub lines_tallied : ℕ → Lines → Tally → Tally
+lines_tallied i l t =
+    ends_tallied l.lf l.crlf
+    (tally t.before t.opening (t.body + (l.end - i)) t.closing (t.characters + 4 * l.groups) t.pads (t.body + (l.last - i) - 1) t.ends)
 
 -- Such lines can be counted.
-abbrev pub LinesFit : (i : ℕ) → Tally → (j groups m lf crlf : ℕ) → Type 0
-LinesFit i t j groups m lf crlf =
-    (t.body + (j - i) < 2 ^ 64) × (t.characters + 4 * groups < 2 ^ 64) × (i ≤ j) × (m ≤ j) × (0 < groups → i < m) × EndsFit t.ends lf crlf
+abbrev pub LinesFit : Position → Lines → Type 0
+LinesFit p l =
+    (p.tally.body + (l.end - p.at) < 2 ^ 64)
+    × (p.tally.characters + 4 * l.groups < 2 ^ 64)
+    × (p.at ≤ l.end)
+    × (l.last ≤ l.end)
+    × (0 < l.groups → p.at < l.last)
+    × EndsFit p.tally.ends l.lf l.crlf
 
 -- Where they lead: to one phase, if there are any.
-abbrev pub behind_lines : (i : ℕ) → State → Tally → Phase → (j groups m lf crlf : ℕ) → Position
-behind_lines i s t q j groups m lf crlf =
-    cond (eqb groups 0) (position_at i s t) (position_at j (state q false) (lines_tallied i j groups m lf crlf t))
+abbrev pub behind_lines : Position → Phase → Lines → Position
+behind_lines p q l = cond (eqb l.groups 0) p (in_phase l.end q (lines_tallied p.at l p.tally))
 
 -- So many bytes of a boundary, counted.
 abbrev pub boundary_tallied : Boundary → ℕ → Tally → Tally
