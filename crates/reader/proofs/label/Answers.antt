@@ -3,9 +3,8 @@ use Rattle.std.proofs.Common.{◌≡◌, ℕ, List, refl, sym, ap, subst, arith,
 use denote.Ref.{Bor}
 use Rattle.reading.specs.Parts.{OwnPart}
 use Rattle.reading.specs.Meaning.{HandsBack, HandsBackPart}
-use Rattle.reading.specs.Read.{judge_of, label_in, label_of}
+use Rattle.reading.specs.Read.{Judgement, judge_of, label_in, label_of}
 use Rattle.reading.specs.Label.{label_span}
-use Rattle.reading.specs.declared.Judgement.{Judgement}
 use Rattle.reading.proofs.Meaning.{sound_fits, label_means, hands_back_part}
 use Rattle.reader.proofs.label.Goals as goal
 
@@ -22,13 +21,13 @@ label-judged text part number j judged e own =
 
 pub part_at-requires : goal.part_at-requires
 part_at-requires c =
-    let lies = sound_fits _ c.args.grammar _ _ _ (sym c.in-Sound.ensures) in
+    let lies = sound_fits _ c.args.grammar _ (sym c.in-Ok.ensures) in
     omega (arith, lies.0)
 
-pub returns-in-Sound : goal.returns-in-Sound
-returns-in-Sound c = label-judged c.args.text _ c.args.grammar _ (sym c.in-Sound.ensures) c.part_at.ensures.bytes c.part_at.ensures.place
+pub returns-in-Ok : goal.returns-in-Ok
+returns-in-Ok c = label-judged c.args.text _ c.args.grammar _ (sym c.in-Ok.ensures) c.part_at.ensures.bytes c.part_at.ensures.place
 
-pub returns-in-Refused : goal.returns-in-Refused
-returns-in-Refused c =
-    label-judged c.args.text _ c.args.grammar _ (sym c.in-Refused.ensures) refl
+pub returns-in-Err : goal.returns-in-Err
+returns-in-Err c =
+    label-judged c.args.text _ c.args.grammar _ (sym c.in-Err.ensures) refl
     record { within = omega arith; block = refl; address = omega arith; bytes = refl }

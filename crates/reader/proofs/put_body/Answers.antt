@@ -41,6 +41,6 @@ put_data-requires c =
     let span = c.args.body in
     let part = c.part_at-part.ensures.bytes in
     let skipped = rw part at c.skip_outside.ensures.2 in
-    let size = spanned-length text span c.requires.2 in
-    let same = lead text span c.args.pass.from c.args.pass.to c.skip_outside.result c.requires.2 (omega arith) c.requires.4 (omega arith) (omega arith) skipped in
-    (c.requires.0, c.requires.1, rw (part, size) (omega arith), rw part (decoded_decoding (with_lead same c.requires.5) c.requires.3))
+    let size = spanned-length text span c.requires.0 in
+    let same = lead text span c.args.pass.from c.args.pass.to c.skip_outside.result c.requires.0 (omega arith) c.requires.2 (omega arith) (omega arith) skipped in
+    (rw (part, size) (omega arith), rw part (decoded_decoding (with_lead same c.requires.3) c.requires.1))
