@@ -1,3 +1,4 @@
 -- Facts about the files of specs/, under the same names, and the functions meet their contracts. Assumes nothing.
-pub mod Tables
+pub mod Spread
 pub mod Values
+pub mod Steps

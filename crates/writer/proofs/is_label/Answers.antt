@@ -1,5 +1,5 @@
 -- A byte of the label at a time. Assumes nothing.
-use Rattle.std.proofs.Common.{◌≡◌, ℕ, ◌+◌, ◌≤◌, ◌<◌, List, [], length, drop, get_or, refl, sym, ◌∙◌, arith, add-one, drop-cons}
+use Rattle.std.proofs.Common.{◌≡◌, ◌≢◌, ℕ, ◌+◌, ◌≤◌, ◌<◌, List, [], false, length, drop, get_or, refl, sym, ◌∙◌, arith, add-one, drop-cons}
 use lib.ListN.{drop_of_length-le}
 use Rattle.machine.proofs.Machine.{label_step, label_ends, label_onward, label_from}
 use Rattle.machine.specs.declared.LabelPhase.{LabelPhase}
@@ -17,18 +17,23 @@ label_end : (p : LabelPhase) → label_from p [] ≡ label_ends p
 unfolding label_from
 label_end p = refl
 
-pub returns-in-Whole : goal.returns-in-Whole
-returns-in-Whole c = sym (c.loop-i.invariant.1 ∙ label_next c.loop-i.phase c.args.label.now c.loop-i.i Whole c.loop-i-test.true (sym c.in-Whole.ensures))
+-- No way on.
+label_stop : (p : LabelPhase) (l : List ℕ) (i : ℕ) (t : LabelTarget) → i < length l → label_step p (get_or l i 0) ≡ t → ((n : LabelPhase) → t ≢ To n)
+    → label_from p (drop i l) ≡ false
+label_stop p l i (To n) h e none = absurd (none n refl)
+label_stop p l i Whole h e none = label_next p l i Whole h e
+label_stop p l i Refused h e none = label_next p l i Refused h e
 
-pub returns-in-Refused : goal.returns-in-Refused
-returns-in-Refused c = sym (c.loop-i.invariant.1 ∙ label_next c.loop-i.phase c.args.label.now c.loop-i.i Refused c.loop-i-test.true (sym c.in-Refused.ensures))
+pub returns-in_default : goal.returns-in_default
+returns-in_default c =
+    sym (c.loop-b.invariant ∙ label_stop c.loop-b.phase c.args.label.now c.loop-b.b-index _ c.loop-b-test.true (sym c.label_step.ensures) c.in_default.not-To)
 
-pub loop-i-preserved : goal.loop-i-preserved
-loop-i-preserved c =
-    (omega arith, c.loop-i.invariant.1 ∙ label_next c.loop-i.phase c.args.label.now c.loop-i.i (To c.in-To.next) c.loop-i-test.true (sym c.in-To.ensures))
+pub loop-b-preserved : goal.loop-b-preserved
+loop-b-preserved c =
+    c.loop-b.invariant ∙ label_next c.loop-b.phase c.args.label.now c.loop-b.b-index (To c.in-To.next) c.loop-b-test.true (sym c.in-To.ensures)
 
 pub returns : goal.returns
 returns c =
     let label = c.args.label.now in
-    let past : length label ≤ c.loop-i.i = omega arith in
-    c.label_ends.ensures ∙ sym (c.loop-i.invariant.1 ∙ rw (drop_of_length-le label past) (label_end c.loop-i.phase))
+    let past : length label ≤ c.loop-b.b-index = omega arith in
+    c.label_ends.ensures ∙ sym (c.loop-b.invariant ∙ rw (drop_of_length-le label past) (label_end c.loop-b.phase))

@@ -1,61 +1,37 @@
--- The answer and the output are those of the judgement. Assumes nothing.
-use Rattle.std.proofs.Common.{◌≡◌, ℕ, ◌-◌, false, ltb, List, ◌++◌, length, replicate, refl, sym, ap, ◌∙◌, arith}
-use borrow.Author.Tests.{lt-ltb, le-ltb}
+-- The answer is that of the call, and the output what it wrote, or zeros. Assumes nothing.
+use Rattle.std.proofs.Common.{◌≡◌, ℕ, false, List, Ok, Err, is_err, IfOk, length, replicate, sym, ap, ◌∙◌, arith}
+use mathlib.Core.Bool.{false≢true}
 use Rattle.base_64.specs.Lists.{All}
 use Rattle.base_64.specs.Alphabet.{Octet}
 use Rattle.base_64.proofs.Lists.{at_all}
-use Rattle.grammar.specs.declared.LineEnding.{LineEnding}
-use Rattle.writing.specs.Text.{written_text}
+use Rattle.writing.specs.Answers.{WriteAnswer}
 use Rattle.writing.specs.Meaning.{Writes}
-use Rattle.writing.specs.Write.{judge_of, answered, write_of, filled, write_output}
-use Rattle.writing.specs.declared.Judgement.{Judgement}
-use Rattle.writing.specs.declared.Judgement.TheVariants.{Taken}
-use Rattle.writing.specs.declared.TextSize.{TextSize}
-use Rattle.writing.specs.declared.WriteAnswer.{WriteAnswer}
-use Rattle.writing.proofs.Meaning.{taken_size, write_means}
+use Rattle.writing.specs.Write.{write_of, write_output}
+use Rattle.writing.proofs.Meaning.{write_means, err_zeros}
 use Rattle.writer.proofs.write.Goals as goal
 
-writes_same : (label content : List ℕ) (number room : ℕ) (r s : WriteAnswer) (out list : List ℕ) → r ≡ s → out ≡ list → Writes label content number room s list
-    → Writes label content number room r out
-writes_same label content number room r s out list e f h = rw (e, f) h
-
--- The answer and the output of a judgement are what the call gives.
-answer_judged : (label content : List ℕ) (number room : ℕ) (j : Judgement) → All Octet content → judge_of label content number ≡ j → (r : WriteAnswer) (out : List ℕ)
-    → r ≡ answered j room → out ≡ filled j label content room
+answer_means : (label content : List ℕ) (number room : ℕ) (r : WriteAnswer) (out : List ℕ) → All Octet content → r ≡ write_of label content number room
+    → out ≡ write_output label content number room
     → (r ≡ write_of label content number room) × (out ≡ write_output label content number room) × Writes label content number room r out
-answer_judged label content number room j octets judged r out e f =
-    let same : r ≡ write_of label content number room = e ∙ sym (ap (λ (k : Judgement). answered k room) judged) in
-    let same_out : out ≡ write_output label content number room = f ∙ sym (ap (λ (k : Judgement). filled k label content room) judged) in
-    (same, same_out, writes_same label content number room r _ out _ same same_out (write_means label content number room octets))
+answer_means label content number room r out octets e f = (e, f, rw (e, f) (write_means label content number room octets))
 
--- With room for the text, it and zeros behind it are what a judgement gives.
-text_filled : (s : LineEnding) (label content : List ℕ) (room : ℕ) (size : TextSize) (out : List ℕ) → ltb room size.0 ≡ false
-    → size.0 ≡ length (written_text s label content) → out ≡ written_text s label content ++ replicate (room - length (written_text s label content)) 0
-    → out ≡ filled (Taken s size) label content room
-text_filled s label content room size out fits same e = e ∙ rw (fits, same)
+ok_holds : (r : WriteAnswer) (P : Type 0) → is_err r ≡ false → IfOk r (λ _. P) → P
+ok_holds (Ok x) P e h = h
+ok_holds (Err x) P e h = absurd (false≢true (sym e))
 
-pub returns-then-out-size : goal.returns-then-out-size
-returns-then-out-size c =
-    let octets = at_all Octet c.args.content.now 0 (λ i h. omega (arith, c.type_inv.content i)) in
-    let small = lt-ltb _ _ c.if-out-size.true in
-    answer_judged _ _ _ _ _ octets (sym c.in-Taken.ensures) _ _ (rw small) (c.clear.ensures ∙ rw small)
-
-pub put_text-requires : goal.put_text-requires
-put_text-requires c =
-    let args = c.args in
-    omega (arith, c.if-out-size.false, taken_size c.in-Taken.known args.label.now args.content.now args.style c.in-Taken.size (sym c.in-Taken.ensures))
-
-pub returns-else-out-size : goal.returns-else-out-size
-returns-else-out-size c =
+pub returns-then-is_err : goal.returns-then-is_err
+returns-then-is_err c =
     let args = c.args in
     let octets = at_all Octet args.content.now 0 (λ i h. omega (arith, c.type_inv.content i)) in
-    let room = le-ltb _ _ c.if-out-size.false in
-    let judged = sym c.in-Taken.ensures in
-    let same = taken_size c.in-Taken.known args.label.now args.content.now args.style c.in-Taken.size judged in
-    answer_judged _ _ _ _ _ octets judged _ _ (rw room)
-    (text_filled c.in-Taken.known args.label.now args.content.now _ c.in-Taken.size _ room same c.put_text.ensures)
+    let call = c.try_write-answer.ensures in
+    let same : length c.try_write-answer.new.out ≡ length args.out.now = omega arith in
+    let err = ap is_err (sym call.answer) ∙ sym c.is_err.ensures.value ∙ c.if-is_err.true in
+    answer_means _ _ _ _ _ _ octets call.answer
+    (c.clear.ensures ∙ ap (λ (n : ℕ). replicate n 0) same ∙ sym (err_zeros args.label.now args.content.now args.style (length args.out.now) err))
 
-pub returns-in-Refused : goal.returns-in-Refused
-returns-in-Refused c =
-    let octets = at_all Octet c.args.content.now 0 (λ i h. omega (arith, c.type_inv.content i)) in
-    answer_judged _ _ _ _ _ octets (sym c.in-Refused.ensures) _ _ refl c.clear-in-Refused.ensures
+pub returns-else-is_err : goal.returns-else-is_err
+returns-else-is_err c =
+    let args = c.args in
+    let octets = at_all Octet args.content.now 0 (λ i h. omega (arith, c.type_inv.content i)) in
+    let call = c.try_write-answer.ensures in
+    answer_means _ _ _ _ _ _ octets call.answer (ok_holds c.try_write-answer.result _ (sym c.is_err.ensures.value ∙ c.if-is_err.false) call.output)
