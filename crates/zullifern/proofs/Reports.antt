@@ -4,10 +4,9 @@ use mathlib.Core.List.{List}
 use Prim.Native.Nat.{ℕ}
 use Rattle.reading.specs.Meaning as rows
 use Rattle.reading.specs.Meaning.{Refuses, HandsBack, HandsBackPlace}
-use Rattle.reading.specs.Read.{judge_of, label_in}
+use Rattle.std.specs.Prelude.{Ok, Err}
+use Rattle.reading.specs.Read.{Judgement, judge_of, label_in}
 use Rattle.reading.specs.Label.{label_span, label_span_of}
-use Rattle.reading.specs.declared.Judgement.{Judgement}
-use Rattle.reading.specs.declared.Judgement.TheVariants as judgement
 use Rattle.reading.specs.declared.Refusal.{Refusal}
 use Rattle.reading.specs.declared.Span.{Span}
 use Rattle.reading.proofs.Meaning.{label_means, label_lies, passed_span, refuses_span, zero_refused}
@@ -15,8 +14,8 @@ use Rattle.zullifern.specs.Reports.{report, judged_report, label_report, reporte
 
 -- Offset and length stand in slots 3 and 4, and zeros in the others.
 judged_slots : (j : Judgement) → judged_report j ≡ report 0 0 0 (label_span j).at.0 (label_span j).length 0 0
-judged_slots (judgement.Sound l found style) = refl
-judged_slots (judgement.Refused r) = refl
+judged_slots (Ok sound) = refl
+judged_slots (Err refusal) = refl
 
 pub label_reported : (text : List ℕ) (number : ℕ) → ReportsLabel text number (label_report text number)
 label_reported text number = record {
@@ -38,8 +37,8 @@ reports_label text number numbers q = q.slots ∙ go q.offset q.length q.hands_b
 
 -- The report of a label's part names the bytes that are handed back.
 judged_part : (text : List ℕ) (j : Judgement) → label_in j text ≡ reported_part text (judged_report j)
-judged_part text (judgement.Sound l found style) = refl
-judged_part text (judgement.Refused r) = refl
+judged_part text (Ok sound) = refl
+judged_part text (Err refusal) = refl
 
 pub report_hands_back : (text : List ℕ) (number : ℕ) → HandsBack text number (reported_part text (label_report text number))
 report_hands_back text number = rw (← judged_part text (judge_of text number)) (label_means text number)

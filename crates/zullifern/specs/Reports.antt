@@ -1,19 +1,17 @@
 -- The reports of the exported calls: number, place, size, label offset, label length, family (K6), style of the line ends (K7) and zero.
 -- Assumes nothing.
-use Rattle.std.specs.Prelude.{◌≡◌, List, [], ◌∷◌, ℕ, get_or, take, drop}
-use Rattle.reading.specs.Answers.{number_of, place_of, size_of, label_offset_of, label_length_of, label_family_of, line_style_of}
+use Rattle.std.specs.Prelude.{◌≡◌, List, [], ◌∷◌, ℕ, get_or, take, drop, Ok, Err}
+use Rattle.grammar.specs.Families.{family_told}
+use Rattle.output.specs.declared.CallError.TheVariants.{Refused}
+use Rattle.reading.specs.Answers.{ReadAnswer, number_of, place_of, size_of, label_offset_of, label_length_of, label_family_of, line_style_of}
 use Rattle.reading.specs.Meaning.{Refuses, HandsBackPlace}
-use Rattle.reading.specs.Read.{judge_of}
+use Rattle.reading.specs.Read.{Judgement, judge_of}
 use Rattle.reading.specs.declared.Found.{Found}
-use Rattle.reading.specs.declared.Judgement.{Judgement}
-use Rattle.reading.specs.declared.Judgement.TheVariants as judgement
-use Rattle.reading.specs.declared.ReadAnswer.{ReadAnswer}
-use Rattle.reading.specs.declared.ReadAnswer.TheVariants as answer
 use Rattle.reading.specs.declared.Refusal.{Refusal}
 use Rattle.indexing.specs.Answers as indexed
-use Rattle.indexing.specs.declared.IndexAnswer.{IndexAnswer}
+use Rattle.indexing.specs.Answers.{IndexAnswer}
 use Rattle.writing.specs.Answers as wrote
-use Rattle.writing.specs.declared.WriteAnswer.{WriteAnswer}
+use Rattle.writing.specs.Answers.{WriteAnswer}
 
 abbrev pub report : (number place size at length family style : ℕ) → List ℕ
 report number place size at length family style = number ∷ place ∷ size ∷ at ∷ length ∷ family ∷ style ∷ 0 ∷ []
@@ -23,15 +21,15 @@ abbrev pub read_report : ReadAnswer → List ℕ
 read_report a = report (number_of a) (place_of a) (size_of a) (label_offset_of a) (label_length_of a) (label_family_of a) (line_style_of a)
 
 abbrev pub refusal_report : Refusal → List ℕ
-refusal_report r = read_report (answer.Refused r)
+refusal_report r = read_report (Err (Refused r))
 
 abbrev pub found_report : ℕ → Found → ℕ → List ℕ
-found_report number found style = report number 0 found.size.0 found.label.at.0 found.label.length found.family.0 style
+found_report number found style = report number 0 found.size.0 found.label.at.0 found.label.length (family_told found.family) style
 
 -- The part that the label call hands back, in slots 3 and 4; the others are zero.
 abbrev pub judged_report : Judgement → List ℕ
-judged_report (judgement.Sound l found style) = report 0 0 0 l.opened.at.0 l.opened.length 0 0
-judged_report (judgement.Refused r) = report 0 0 0 0 0 0 0
+judged_report (Ok sound) = report 0 0 0 sound.layout.opened.at.0 sound.layout.opened.length 0 0
+judged_report (Err refusal) = report 0 0 0 0 0 0 0
 
 abbrev pub label_report : List ℕ → ℕ → List ℕ
 label_report text number = judged_report (judge_of text number)

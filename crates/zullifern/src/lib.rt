@@ -4,8 +4,8 @@
 // family, the style of the line ends, and zero. `zullifern_c` hands the same calls to C, under the same names.
 #![tactic(auto)]
 
-ghost use Rattle.std.specs.Prelude.{◌≡◌, length};
-ghost use Rattle.reading.specs.Answers.{number_of};
+ghost use Rattle.std.specs.Prelude.{◌≡◌, ℕ, length};
+ghost use Rattle.reading.specs.Answers.{number_of, refusal_number};
 ghost use Rattle.reading.specs.Meaning.{Reads, HandsBack};
 ghost use Rattle.reading.specs.Read.{read_of, output_of};
 ghost use Rattle.indexing.specs.Answers as indexed;
@@ -14,20 +14,58 @@ ghost use Rattle.indexing.specs.Index.{index_of, lent_table};
 ghost use Rattle.writing.specs.Answers as wrote;
 ghost use Rattle.writing.specs.Meaning.{Writes};
 ghost use Rattle.writing.specs.Write.{write_of, write_output};
+ghost use Rattle.zullifern.specs.Answers.{answer_number};
 ghost use Rattle.zullifern.specs.Reports.{read_report, refusal_report, found_report, label_report, judged_report, reported_part, ReportsLabel, size_report, index_report, write_report};
 
-use indexing::IndexAnswer;
-use reading::{Found, Judgement, ReadAnswer, Refusal};
-use writing::WriteAnswer;
+use grammar::Family;
+use indexing::{IndexAnswer, TableSize};
+use output::CallError;
+use reading::{Accepted, Found, Judgement, ReadAnswer, Refusal};
+use writing::{TextSize, WriteAnswer, WriteRefusal};
+
+// A refusal that has a number in the requirements.
+pub trait HasNumber: Copy {
+    ghost number_of: { Self → ℕ };
+
+    fn number(self) -> u32
+        ensures { result ≡ number_of self };
+}
+
+impl HasNumber for Refusal {
+    ghost number_of = { refusal_number };
+
+    fn number(self) -> u32 {
+        Refusal::number(self)
+    }
+}
+
+impl HasNumber for WriteRefusal {
+    ghost number_of = { wrote.refusal_number };
+
+    fn number(self) -> u32 {
+        WriteRefusal::number(self)
+    }
+}
+
+// The requirements' number of an answer, whatever its result, its refusals and its sizes are: 0 with a result, 10 for want of
+// room.
+pub fn answer_number<T: Copy, R: HasNumber, S: Copy>(answer: Result<T, CallError<R, S>>) -> u32
+    ensures { result ≡ answer_number R.number_of answer }
+{
+    match answer {
+        Ok(_) => 0,
+        Err(CallError::Refused(refusal)) => refusal.number(),
+        Err(CallError::TooSmall(_)) => 10,
+    }
+}
 
 // The report of a refusal 1 to 9.
 fn refusal_report(refusal: Refusal) -> [u64; 8]
     ensures { result ≡ refusal_report refusal }
 {
-    let place = reader::refusal_place(refusal);
     [
-        reader::refusal_number(refusal) as u64,
-        place.0 as u64,
+        u64::from(refusal.number()),
+        refusal.place().0 as u64,
         0,
         0,
         0,
@@ -41,17 +79,18 @@ fn refusal_report(refusal: Refusal) -> [u64; 8]
 fn found_report(number: u64, found: Found, style: u64) -> [u64; 8]
     ensures { result ≡ found_report number found style }
 {
-    let size = found.size;
-    let label = found.label;
-    let family = found.family;
-    let at = label.at;
+    let Found {
+        size,
+        label,
+        family,
+    } = found;
     [
         number,
         0,
         size.0 as u64,
-        at.0 as u64,
+        label.at.0 as u64,
         label.length as u64,
-        family.0 as u64,
+        u64::from(Family::told(family)),
         style,
         0,
     ]
@@ -62,9 +101,9 @@ fn read_report(answer: ReadAnswer) -> [u64; 8]
     ensures { result ≡ read_report answer }
 {
     match answer {
-        ReadAnswer::Accepted(found, style) => found_report(0, found, style.number() as u64),
-        ReadAnswer::Refused(refusal) => refusal_report(refusal),
-        ReadAnswer::OutputTooSmall(found) => found_report(10, found, 0),
+        Ok(Accepted { found, style }) => found_report(0, found, u64::from(style.number())),
+        Err(CallError::Refused(refusal)) => refusal_report(refusal),
+        Err(CallError::TooSmall(found)) => found_report(10, found, 0),
     }
 }
 
@@ -72,14 +111,12 @@ fn read_report(answer: ReadAnswer) -> [u64; 8]
 fn label_report(judgement: Judgement) -> [u64; 8]
     ensures { result ≡ judged_report judgement }
 {
-    match judgement {
-        Judgement::Sound(layout, _, _) => {
-            let opened = layout.opened;
-            let at = opened.at;
-            [0, 0, 0, at.0 as u64, opened.length as u64, 0, 0, 0]
-        }
-        Judgement::Refused(_) => [0, 0, 0, 0, 0, 0, 0, 0],
-    }
+    let Ok(sound) = judgement else {
+        return [0; 8];
+    };
+    let opened = sound.layout.opened;
+    let (at, length) = (opened.at.0 as u64, opened.length as u64);
+    [0, 0, 0, at, length, 0, 0, 0]
 }
 
 // The report of an answer that has no place and no label.
@@ -94,9 +131,9 @@ fn index_report(answer: IndexAnswer) -> [u64; 8]
     ensures { result ≡ index_report answer }
 {
     match answer {
-        IndexAnswer::Accepted(size) => size_report(0, size.0),
-        IndexAnswer::Refused(refusal) => refusal_report(refusal),
-        IndexAnswer::TableTooSmall(size) => size_report(10, size.0),
+        Ok(TableSize(n)) => size_report(0, n),
+        Err(CallError::Refused(refusal)) => refusal_report(refusal),
+        Err(CallError::TooSmall(TableSize(n))) => size_report(10, n),
     }
 }
 
@@ -105,17 +142,10 @@ fn write_report(answer: WriteAnswer) -> [u64; 8]
     ensures { result ≡ write_report answer }
 {
     match answer {
-        WriteAnswer::Accepted(size) => size_report(0, size.0),
-        WriteAnswer::Refused(_) => size_report(writer::answer_number(answer) as u64, 0),
-        WriteAnswer::OutputTooSmall(size) => size_report(10, size.0),
+        Ok(TextSize(n)) => size_report(0, n),
+        Err(CallError::Refused(refusal)) => size_report(u64::from(refusal.number()), 0),
+        Err(CallError::TooSmall(TextSize(n))) => size_report(10, n),
     }
-}
-
-// Fills the lent report.
-fn put_report(values: [u64; 8], report: &mut [u64; 8])
-    ensures { report.new ≡ values }
-{
-    *report = values;
 }
 
 // Reads a text that is to be one message of the grammar of this number, and answers the number. After 0 the output holds the
@@ -124,8 +154,8 @@ pub fn zullifern_read(text: &[u8], grammar: u32, out: &mut [u8], report: &mut [u
     ensures { (result ≡ number_of (read_of text.now grammar (length out.old))) × (report.new ≡ read_report (read_of text.now grammar (length out.old))) × (out.new ≡ output_of text.now grammar (length out.old)) × Reads text.now grammar (length out.old) (read_of text.now grammar (length out.old)) out.new }
 {
     let answer = reader::read(text, grammar, out);
-    put_report(read_report(answer), report);
-    reader::answer_number(answer)
+    *report = read_report(answer);
+    answer_number(answer)
 }
 
 // The opening label's part of the text: its offset and its length stand in the report's slots 3 and 4, and the call answers
@@ -133,7 +163,7 @@ pub fn zullifern_read(text: &[u8], grammar: u32, out: &mut [u8], report: &mut [u
 pub fn zullifern_label(text: &[u8], grammar: u32, report: &mut [u64; 8]) -> u32
     ensures { (result ≡ 0) × (report.new ≡ label_report text.now grammar) × HandsBack text.now grammar (reported_part text.now report.new) × ReportsLabel text.now grammar report.new }
 {
-    put_report(label_report(reader::judge(text, grammar)), report);
+    *report = label_report(reader::judge(text, grammar));
     0
 }
 
@@ -144,8 +174,8 @@ pub fn zullifern_index(text: &[u8], grammar: u32, table: &mut [u32], report: &mu
     ensures { (result ≡ indexed.number_of (index_of text.now grammar (length table.old))) × (report.new ≡ index_report (index_of text.now grammar (length table.old))) × (table.new ≡ lent_table text.now grammar (length table.old)) × Indexes text.now grammar (length table.old) (index_of text.now grammar (length table.old)) table.new }
 {
     let answer = index::index(text, grammar, table);
-    put_report(index_report(answer), report);
-    index::answer_number(answer)
+    *report = index_report(answer);
+    answer_number(answer)
 }
 
 // Writes the strict text of a label and data with line ends of the kind that the style's number asks for, and answers the number.
@@ -160,6 +190,6 @@ pub fn zullifern_write(
     ensures { (result ≡ wrote.number_of (write_of label.now content.now style (length out.old))) × (report.new ≡ write_report (write_of label.now content.now style (length out.old))) × (out.new ≡ write_output label.now content.now style (length out.old)) × Writes label.now content.now style (length out.old) (write_of label.now content.now style (length out.old)) out.new }
 {
     let answer = writer::write(label, content, style, out);
-    put_report(write_report(answer), report);
-    writer::answer_number(answer)
+    *report = write_report(answer);
+    answer_number(answer)
 }

@@ -6,5 +6,5 @@ use Rattle.zullifern.proofs.zullifern_label.Goals as goal
 
 pub returns : goal.returns
 returns c =
-    let same = c.put_report.ensures ∙ c.label_report.ensures ∙ ap judged_report c.judge.ensures in
+    let same = c.label_report.ensures ∙ ap judged_report c.judge.ensures in
     (refl, same, rw same (report_hands_back _ _), rw same (label_reported _ _))
