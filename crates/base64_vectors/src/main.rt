@@ -1,214 +1,135 @@
 // Runs base64 on the test vectors of RFC 4648, section 10, in both directions, on every byte, and on the 256 bytes in order.
 #![tactic(auto)]
 
-ghost use Rattle.std.specs.Prelude.{◌≡◌};
-ghost use Rattle.base_64.specs.Alphabet.{alphabet};
-ghost use Rattle.base_64.specs.Values.{DecodeTable};
-
-use base_64::{RADIX, Value};
+use base_64::{DecodeTable, EncodeTable, RADIX, Sextet, ShortGroup};
 use std::io;
 use std::io::Write;
 
 fn put(writer: &mut impl Write, c: u8) -> io::Result<()> {
-    let text = [c];
-    writer.write_all(&text)
+    writer.write_all(&[c])
 }
 
-fn end_line(writer: &mut impl Write) -> io::Result<()> {
-    put(writer, b'\n')
+// The base 64 text of the bytes, and a line end.
+fn encode(writer: &mut impl Write, chars: &EncodeTable, bytes: &[u8]) -> io::Result<()> {
+    for group in bytes.chunks(base_64::GROUP_BYTES) {
+        writer.write_all(&base_64::encode(chars, group))?;
+    }
+    writeln!(writer)
 }
 
-// The spare bits behind a short group.
-fn put_spare(writer: &mut impl Write, spare: u8) -> io::Result<()> {
-    put(writer, b' ')?;
-    write!(writer, "{spare}")
+// The bytes of a short group, and the spare bits behind them.
+fn put_short<const N: usize>(writer: &mut impl Write, group: ShortGroup<N>) -> io::Result<()> {
+    writer.write_all(&group.bytes)?;
+    write!(writer, " {}", group.spare)
 }
 
-// The character of a value.
-fn put_char(writer: &mut impl Write, table: &[u8; 64], value: u8) -> io::Result<()>
-    requires { table.now ≡ alphabet }
-{
-    if value < RADIX {
-        put(writer, base_64::char_of(table, value))?;
+fn two(values: &DecodeTable, a: u8, b: u8) -> Option<ShortGroup<1>> {
+    Some(base_64::bytes_of_two(values.value_of(a)?, values.value_of(b)?))
+}
+
+fn three(values: &DecodeTable, a: u8, b: u8, c: u8) -> Option<ShortGroup<2>> {
+    Some(base_64::bytes_of_three(
+        values.value_of(a)?,
+        values.value_of(b)?,
+        values.value_of(c)?,
+    ))
+}
+
+fn four(values: &DecodeTable, a: u8, b: u8, c: u8, d: u8) -> Option<[u8; 3]> {
+    Some(base_64::bytes_of_four(
+        values.value_of(a)?,
+        values.value_of(b)?,
+        values.value_of(c)?,
+        values.value_of(d)?,
+    ))
+}
+
+// The bytes of two to four characters; nothing where one is outside the alphabet.
+fn decode_group(writer: &mut impl Write, values: &DecodeTable, group: &[u8]) -> io::Result<()> {
+    match *group {
+        [a, b] => {
+            if let Some(group) = two(values, a, b) {
+                put_short(writer, group)?;
+            }
+        }
+        [a, b, c] => {
+            if let Some(group) = three(values, a, b, c) {
+                put_short(writer, group)?;
+            }
+        }
+        [a, b, c, d] => {
+            if let Some(bytes) = four(values, a, b, c, d) {
+                writer.write_all(&bytes)?;
+            }
+        }
+        _ => {}
     }
     Ok(())
 }
 
-fn put_group(writer: &mut impl Write, group: [u8; 4]) -> io::Result<()> {
-    writer.write_all(&group)
-}
-
-// The base 64 text of the bytes, and a line end.
-fn encode(writer: &mut impl Write, table: &[u8; 64], bytes: &[u8]) -> io::Result<()>
-    requires { table.now ≡ alphabet }
-{
-    let mut i = 0;
-    while 2 < bytes.len() - i {
-        put_group(
-            writer,
-            base_64::encode_three(table, bytes[i], bytes[i + 1], bytes[i + 2]),
-        )?;
-        i += 3;
-    }
-    if bytes.len() - i == 2 {
-        put_group(writer, base_64::encode_two(table, bytes[i], bytes[i + 1]))?;
-    }
-    if bytes.len() - i == 1 {
-        put_group(writer, base_64::encode_one(table, bytes[i]))?;
-    }
-    end_line(writer)
-}
-
-// The value of a byte, or the radix for one outside the alphabet.
-fn value(values: &[u8; 256], c: u8) -> u8
-    requires { DecodeTable values.now }
-{
-    match base_64::value_of(values, c) {
-        Value::Of(v) => v,
-        Value::Outside => RADIX,
-    }
-}
-
-fn decode_two(writer: &mut impl Write, a: u8, b: u8) -> io::Result<()> {
-    if 63 < a {
-        return Ok(());
-    }
-    if 63 < b {
-        return Ok(());
-    }
-    let one = base_64::bytes_of_two(a, b);
-    let bytes = one.bytes;
-    put(writer, bytes[0])?;
-    put_spare(writer, one.spare)
-}
-
-fn decode_three(writer: &mut impl Write, a: u8, b: u8, c: u8) -> io::Result<()> {
-    if 63 < a {
-        return Ok(());
-    }
-    if 63 < b {
-        return Ok(());
-    }
-    if 63 < c {
-        return Ok(());
-    }
-    let two = base_64::bytes_of_three(a, b, c);
-    let bytes = two.bytes;
-    put(writer, bytes[0])?;
-    put(writer, bytes[1])?;
-    put_spare(writer, two.spare)
-}
-
-fn decode_four(writer: &mut impl Write, a: u8, b: u8, c: u8, d: u8) -> io::Result<()> {
-    if 63 < a {
-        return Ok(());
-    }
-    if 63 < b {
-        return Ok(());
-    }
-    if 63 < c {
-        return Ok(());
-    }
-    if 63 < d {
-        return Ok(());
-    }
-    let bytes = base_64::bytes_of_four(a, b, c, d);
-    put(writer, bytes[0])?;
-    put(writer, bytes[1])?;
-    put(writer, bytes[2])
-}
-
 // The bytes of the characters, with the spare bits behind a short group, and a line end.
-fn decode(writer: &mut impl Write, values: &[u8; 256], text: &[u8]) -> io::Result<()>
-    requires { DecodeTable values.now }
-{
-    let mut i = 0;
-    while 3 < text.len() - i {
-        decode_four(
-            writer,
-            value(values, text[i]),
-            value(values, text[i + 1]),
-            value(values, text[i + 2]),
-            value(values, text[i + 3]),
-        )?;
-        i += 4;
+fn decode(writer: &mut impl Write, values: &DecodeTable, text: &[u8]) -> io::Result<()> {
+    for group in text.chunks(base_64::GROUP_CHARS) {
+        decode_group(writer, values, group)?;
     }
-    if text.len() - i == 3 {
-        decode_three(
-            writer,
-            value(values, text[i]),
-            value(values, text[i + 1]),
-            value(values, text[i + 2]),
-        )?;
+    writeln!(writer)
+}
+
+// The characters in the order of their values.
+fn every_value(writer: &mut impl Write, chars: &EncodeTable) -> io::Result<()> {
+    for value in 0..RADIX {
+        put(writer, chars.char_of(Sextet::low(value)))?;
     }
-    if text.len() - i == 2 {
-        decode_two(writer, value(values, text[i]), value(values, text[i + 1]))?;
-    }
-    end_line(writer)
+    writeln!(writer)
 }
 
 // The character of each byte's value, in the order of the bytes; then how many bytes are outside.
-fn every_byte(writer: &mut impl Write, table: &[u8; 64], values: &[u8; 256]) -> io::Result<()>
-    requires { (table.now ≡ alphabet) × DecodeTable values.now }
-{
-    let mut outside: u64 = 0;
-    for c in 0u8..=255 {
-        let v = value(values, c);
-        if v < RADIX {
-            put_char(writer, table, v)?;
-        } else {
-            outside += 1;
-        }
+fn every_byte(
+    writer: &mut impl Write,
+    chars: &EncodeTable,
+    values: &DecodeTable,
+) -> io::Result<()> {
+    for value in (0u8..=255).filter_map(|c| values.value_of(c)) {
+        put(writer, chars.char_of(value))?;
     }
-    end_line(writer)?;
-    write!(writer, "{outside}")?;
-    end_line(writer)
+    let outside = (0u8..=255).filter(|c| !values.is_character(*c)).count();
+    writeln!(writer, "\n{outside}")
 }
 
-fn encode_vectors(writer: &mut impl Write, table: &[u8; 64]) -> io::Result<()>
-    requires { table.now ≡ alphabet }
-{
-    encode(writer, table, b"")?;
-    encode(writer, table, b"f")?;
-    encode(writer, table, b"fo")?;
-    encode(writer, table, b"foo")?;
-    encode(writer, table, b"foob")?;
-    encode(writer, table, b"fooba")?;
-    encode(writer, table, b"foobar")
+fn encode_vectors(writer: &mut impl Write, chars: &EncodeTable) -> io::Result<()> {
+    for text in ["", "f", "fo", "foo", "foob", "fooba", "foobar"] {
+        encode(writer, chars, text.as_bytes())?;
+    }
+    Ok(())
 }
 
-fn decode_vectors(writer: &mut impl Write, values: &[u8; 256]) -> io::Result<()>
-    requires { DecodeTable values.now }
-{
-    decode(writer, values, b"Zg")?;
-    decode(writer, values, b"Zm8")?;
-    decode(writer, values, b"Zm9v")?;
-    decode(writer, values, b"Zm9vYg")?;
-    decode(writer, values, b"Zm9vYmE")?;
-    decode(writer, values, b"Zm9vYmFy")?;
+fn decode_vectors(writer: &mut impl Write, values: &DecodeTable) -> io::Result<()> {
+    for text in ["Zg", "Zm8", "Zm9v", "Zm9vYg", "Zm9vYmE", "Zm9vYmFy"] {
+        decode(writer, values, text.as_bytes())?;
+    }
     // Spare bits that are not zero: 1 behind one byte, 3 behind two.
-    decode(writer, values, b"Zh")?;
-    decode(writer, values, b"Zm/")
+    for text in ["Zh", "Zm/"] {
+        decode(writer, values, text.as_bytes())?;
+    }
+    Ok(())
 }
 
 fn bytes_in_order() -> [u8; 256] {
-    let mut bytes = [0u8; 256];
-    for i in 0u8..=255 {
-        bytes[i as usize] = i;
+    let mut bytes = [0; 256];
+    for (byte, i) in bytes.iter_mut().zip(0u8..=255) {
+        *byte = i;
     }
     bytes
 }
 
 fn run(writer: &mut impl Write) -> io::Result<()> {
-    let table = base_64::alphabet_table();
-    writer.write_all(&table)?;
-    end_line(writer)?;
-    let values = base_64::decode_table();
-    every_byte(writer, &table, &values)?;
-    encode_vectors(writer, &table)?;
+    let chars = EncodeTable::new();
+    let values = DecodeTable::new();
+    every_value(writer, &chars)?;
+    every_byte(writer, &chars, &values)?;
+    encode_vectors(writer, &chars)?;
     decode_vectors(writer, &values)?;
-    let bytes = bytes_in_order();
-    encode(writer, &table, &bytes)
+    encode(writer, &chars, &bytes_in_order())
 }
 
 fn main(rt: HostRuntime) -> io::Result<()> {

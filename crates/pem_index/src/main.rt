@@ -9,13 +9,13 @@ mod listing;
 
 use grammar::Grammar;
 use reading::Refusal;
-use shell::choice::Choice;
-use shell::input::Input;
+use shell::input::InputError;
 use shell::{choice, input};
 use std::env::{Env, FillError};
 use std::io;
 use std::io::{Read, Write};
-use support::{print, table};
+use support::lent;
+use support::lent::Answer;
 
 // One byte more than the program takes, so that a longer input is seen to be too long.
 const TEXT_SIZE: usize = 65537;
@@ -24,48 +24,47 @@ const TEXT_SIZE: usize = 65537;
 const WORD_SIZE: usize = 9;
 
 fn index(writer: &mut impl Write, text: &[u8], grammar: u32) -> io::Result<()> {
-    let mut lent = [0u32; table::SIZE];
-    let mut report = [0u64; 8];
-    let number = zullifern::zullifern_index(text, grammar, &mut lent, &mut report);
-    if number == 0 {
-        listing::messages(writer, text, &lent)
+    let mut table = [0; lent::TABLE_SIZE];
+    let answer = Answer::of(|report| zullifern::zullifern_index(text, grammar, &mut table, report));
+    if answer.number == 0 {
+        listing::messages(writer, text, &table)
     } else {
-        listing::refusal(writer, number, report[1])
+        listing::refusal(writer, answer.number, answer.place())
     }
 }
 
 fn refuse(writer: &mut impl Write, refusal: Refusal) -> io::Result<()> {
-    let place = reader::refusal_place(refusal);
-    listing::refusal(writer, reader::refusal_number(refusal), place.0 as u64)
+    listing::refusal(writer, refusal.number(), refusal.place())
 }
 
 fn index_input(writer: &mut impl Write, stdin: &mut impl Read, grammar: u32) -> io::Result<()> {
-    let mut text = [0u8; TEXT_SIZE];
-    match input::read(stdin, &mut text) {
-        Input::Bytes(n) => index(writer, &text[..n], grammar),
-        Input::TooLong => refuse(writer, input::long_refusal(grammar)),
-        Input::Unreadable => print::word(writer, b"pem_index: standard input cannot be read\n"),
+    let mut space = [0; TEXT_SIZE];
+    match input::read(stdin, &mut space) {
+        Ok(text) => index(writer, text, grammar),
+        Err(InputError::TooLong) => refuse(writer, input::long_refusal(grammar)),
+        Err(InputError::Unreadable) => {
+            writer.write_all(b"pem_index: standard input cannot be read\n")
+        }
     }
 }
 
 // The grammar that the only argument names, or lax where there is none.
-fn chosen(env: &impl Env) -> Choice {
-    let mut word = [0u8; WORD_SIZE];
+fn chosen(env: &impl Env) -> Option<u32> {
+    let mut word = [0; WORD_SIZE];
     if !matches!(env.arg(2, &mut word), Err(FillError::NotPresent)) {
-        return Choice::Unknown;
+        return None;
     }
     match env.arg(1, &mut word) {
         Ok(n) => choice::of(&word[..n]),
-        Err(FillError::NotPresent) => Choice::Number(Grammar::LAX),
-        Err(FillError::TooLong) => Choice::Unknown,
+        Err(FillError::NotPresent) => Some(Grammar::LAX),
+        Err(FillError::TooLong) => None,
     }
 }
 
 fn run(writer: &mut impl Write, stdin: &mut impl Read, env: &impl Env) -> io::Result<()> {
     match chosen(env) {
-        Choice::Number(number) => index_input(writer, stdin, number),
-        Choice::Unknown => print::word(
-            writer,
+        Some(grammar) => index_input(writer, stdin, grammar),
+        None => writer.write_all(
             b"pem_index: give one grammar (lax, standard, strict or a number) and the text on standard input\n",
         ),
     }

@@ -22,13 +22,18 @@
 
 mod bundle;
 mod call;
+mod form;
 mod made;
 mod message;
 mod written;
 
+use form::{Form, Mode, TextMode};
+use grammar::Grammar;
+use shell::input;
 use std::io;
-use std::io::{Read, Write};
-use support::{bytes, expand, fields};
+use std::io::Write;
+use support::bytes::Bytes;
+use support::expand;
 
 // The most bytes of all samples that are read.
 const FORMS_SIZE: usize = 131072;
@@ -36,70 +41,62 @@ const FORMS_SIZE: usize = 131072;
 // Room for the text, the label, the data or the output of a sample.
 const TEXT_SIZE: usize = 65536;
 
-fn run(writer: &mut impl Write, form: &[u8], text: &[u8]) -> io::Result<()> {
-    let name = fields::field(form, 1);
-    let room = fields::number(form, 2) as usize;
-    match bytes::get(form, 0) {
-        b'e' => message::each(writer, name, text, room),
-        b'i' => bundle::each(writer, name, text, room),
-        b's' => bundle::starts(writer, name, text, room),
-        b't' => bundle::line(writer, name, text, fields::number(form, 0), room),
-        _ => message::line(writer, name, text, fields::number(form, 0), room),
-    }
+// A text under a name, and the room that the calls on it are lent.
+#[derive(Clone, Copy)]
+struct Case<'a> {
+    name: &'a [u8],
+    text: &'a [u8],
+    room: usize,
 }
 
-fn text_sample(writer: &mut impl Write, form: &[u8]) -> io::Result<()> {
-    let mut text = [0u8; TEXT_SIZE];
-    let length = expand::expand(fields::rest(form, 4), fields::number(form, 3), &mut text);
-    run(writer, form, bytes::part(&text, 0, length))
-}
-
-// One sample, without its first '@'.
-fn sample(writer: &mut impl Write, form: &[u8]) -> io::Result<()> {
-    match bytes::get(form, 0) {
-        b'#' => Ok(()),
-        b'w' | b'b' | b'r' => written::sample(writer, form),
-        _ => text_sample(writer, form),
-    }
-}
-
-// The sample whose '@' stands at `i`, if one does.
-fn sample_at(writer: &mut impl Write, forms: &[u8], i: usize) -> io::Result<()> {
-    if bytes::get(forms, i) == b'@' {
-        let start = fields::behind(forms, i, b'@');
-        sample(
-            writer,
-            bytes::part(forms, start, fields::behind(forms, start, b'@')),
-        )?;
+fn each_grammar<F: FnMut(u32) -> io::Result<()>>(mut line: F) -> io::Result<()>
+    requires { F.IsAlwaysCallable line }
+{
+    for grammar in [Grammar::LAX, Grammar::STANDARD, Grammar::STRICT] {
+        line(grammar)?;
     }
     Ok(())
+}
+
+fn run(writer: &mut impl Write, mode: TextMode, case: Case) -> io::Result<()> {
+    match mode {
+        TextMode::Read => each_grammar(|grammar| message::line(writer, case, grammar)),
+        TextMode::ReadUnder(grammar) => message::line(writer, case, grammar),
+        TextMode::Index => each_grammar(|grammar| bundle::line(writer, case, grammar)),
+        TextMode::IndexUnder(grammar) => bundle::line(writer, case, grammar),
+        TextMode::IndexStarts => bundle::starts(writer, case),
+    }
+}
+
+fn text_sample(writer: &mut impl Write, form: Form, mode: TextMode) -> io::Result<()> {
+    let mut space = [0; TEXT_SIZE];
+    let mut text = Bytes::new(&mut space);
+    expand::expand(form.rest, form.count, &mut text);
+    let case = Case {
+        name: form.name,
+        text: text.into_slice(),
+        room: form.room,
+    };
+    run(writer, mode, case)
+}
+
+fn sample(writer: &mut impl Write, form: Form) -> io::Result<()> {
+    match form.mode {
+        Mode::Comment => Ok(()),
+        Mode::Text(mode) => text_sample(writer, form, mode),
+        Mode::Write(mode) => written::sample(writer, form, mode),
+    }
 }
 
 fn samples(writer: &mut impl Write, forms: &[u8]) -> io::Result<()> {
-    let mut i = 0;
-    while i < forms.len() {
-        sample_at(writer, forms, i)?;
-        i += 1;
+    for form in forms.split(|c| *c == b'@').skip(1) {
+        sample(writer, Form::from(form))?;
     }
     Ok(())
 }
 
-// Fills a buffer from its start, and answers how many bytes there were.
-fn filled(reader: &mut impl Read, buffer: &mut [u8]) -> io::Result<usize> {
-    let mut n = 0;
-    while n < buffer.len() {
-        let end = buffer.len();
-        let k = reader.read(&mut buffer[n..end])?;
-        if k == 0 {
-            return Ok(n);
-        }
-        n += k;
-    }
-    Ok(n)
-}
-
 fn main(rt: HostRuntime) -> io::Result<()> {
-    let mut forms = [0u8; FORMS_SIZE];
-    let n = filled(&mut rt.stdin(), &mut forms)?;
-    samples(&mut io::writer(&rt), bytes::part(&forms, 0, n))
+    let mut space = [0; FORMS_SIZE];
+    let forms = input::fill(&mut rt.stdin(), &mut space)?;
+    samples(&mut io::writer(&rt), forms)
 }

@@ -1,80 +1,95 @@
 // The write call on one label, data and style, and the lines that show its answer and what is read of the text.
-use crate::{TEXT_SIZE, call, made, message};
+use crate::form::{Form, WriteMode};
+use crate::{Case, TEXT_SIZE, call, each_grammar, made, message};
+use grammar::Grammar;
 use std::io;
 use std::io::Write;
-use support::{bytes, expand, fields, lent, print};
+use support::bytes::Bytes;
+use support::{expand, fields, lent, print};
 
-// The line of what is written; where it is to be read back, then those of what is read, into as much room: a text is longer than
-// its data.
-fn write(
-    writer: &mut impl Write,
-    name: &[u8],
-    label: &[u8],
-    data: &[u8],
+// What the write call is given, and under which name it is shown.
+#[derive(Clone, Copy)]
+struct Parts<'a> {
+    name: &'a [u8],
+    label: &'a [u8],
+    data: &'a [u8],
     style: u32,
     room: usize,
-    back: bool,
-) -> io::Result<()> {
-    let mut space = [0u8; TEXT_SIZE];
-    let out = bytes::first(&mut space, room);
-    let answer = call::write(label, data, style, out);
-    print::written(writer, name, style, out, answer)?;
-    if back {
-        message::each(
-            writer,
-            name,
-            bytes::part(out, 0, lent::filled(answer)),
-            room,
-        )?;
-    }
+}
+
+// The line of what is written. The text is handed back.
+fn write<'a>(writer: &mut impl Write, parts: Parts, space: &'a mut [u8]) -> io::Result<&'a [u8]> {
+    let out = lent::first(space, parts.room);
+    let answer = call::write(parts.label, parts.data, parts.style, out);
+    print::written(writer, parts.name, parts.style, out, answer)?;
+    let (text, _) = lent::parts(out, answer.filled());
+    Ok(text)
+}
+
+fn write_only(writer: &mut impl Write, parts: Parts) -> io::Result<()> {
+    let mut space = [0; TEXT_SIZE];
+    write(writer, parts, &mut space)?;
     Ok(())
+}
+
+// The line of what is written, and then those of what is read, into as much room: a text is longer than its data.
+fn write_back(writer: &mut impl Write, parts: Parts) -> io::Result<()> {
+    let mut space = [0; TEXT_SIZE];
+    let text = write(writer, parts, &mut space)?;
+    let case = Case {
+        name: parts.name,
+        text,
+        room: parts.room,
+    };
+    each_grammar(|grammar| message::line(writer, case, grammar))
 }
 
 // Label and data of a text, written again in the style that was found.
 fn restore(writer: &mut impl Write, name: &[u8], text: &[u8], room: usize) -> io::Result<()> {
-    let mut data = [0u8; TEXT_SIZE];
-    let answer = call::read(text, 3, &mut data);
-    let found = bytes::part(&data, 0, lent::filled(answer));
-    let style = lent::style(answer);
-    write(
-        writer,
+    let mut space = [0; TEXT_SIZE];
+    let answer = call::read(text, Grammar::STRICT, &mut space);
+    let (data, _) = lent::parts(&space, answer.filled());
+    let parts = Parts {
         name,
-        reader::label(text, 3),
-        found,
-        style,
+        label: reader::label(text, Grammar::STRICT),
+        data,
+        style: answer.style(),
         room,
-        true,
-    )
+    };
+    write_back(writer, parts)
 }
 
 // `head` is the label or the text.
-fn run(writer: &mut impl Write, form: &[u8], head: &[u8], data: &[u8]) -> io::Result<()> {
-    let name = fields::field(form, 1);
-    let room = fields::number(form, 2) as usize;
-    let style = fields::number(form, 5);
-    match bytes::get(form, 0) {
-        b'w' => write(writer, name, head, data, style, room, false),
-        b'b' => write(writer, name, head, data, style, room, true),
-        _ => restore(writer, name, head, room),
+fn run(
+    writer: &mut impl Write,
+    form: Form,
+    mode: WriteMode,
+    head: &[u8],
+    data: &[u8],
+) -> io::Result<()> {
+    let parts = Parts {
+        name: form.name,
+        label: head,
+        data,
+        style: fields::number(fields::field(form.rest, 1)),
+        room: form.room,
+    };
+    match mode {
+        WriteMode::Write => write_only(writer, parts),
+        WriteMode::WriteBack => write_back(writer, parts),
+        WriteMode::Restore => restore(writer, form.name, head, form.room),
     }
 }
 
-// Puts what the sample spells out and the made bytes behind it into `data`, and answers how many they are.
-fn fill(form: &[u8], data: &mut [u8]) -> usize {
-    let given = expand::expand(fields::rest(form, 7), fields::number(form, 3), data);
-    made::make(data, given, fields::number(form, 4) as usize)
-}
-
-// A sample of the write call.
-pub fn sample(writer: &mut impl Write, form: &[u8]) -> io::Result<()> {
-    let mut head = [0u8; TEXT_SIZE];
-    let mut data = [0u8; TEXT_SIZE];
-    let length = expand::expand(fields::field(form, 6), fields::number(form, 3), &mut head);
-    let size = fill(form, &mut data);
-    run(
-        writer,
-        form,
-        bytes::part(&head, 0, length),
-        bytes::part(&data, 0, size),
-    )
+// A sample of the write call: length, style, label or text, and what is spelled out of the data.
+pub fn sample(writer: &mut impl Write, form: Form, mode: WriteMode) -> io::Result<()> {
+    let mut head_space = [0; TEXT_SIZE];
+    let mut head = Bytes::new(&mut head_space);
+    expand::expand(fields::field(form.rest, 2), form.count, &mut head);
+    let mut data_space = [0; TEXT_SIZE];
+    let mut data = Bytes::new(&mut data_space);
+    expand::expand(fields::rest(form.rest, 3), form.count, &mut data);
+    let length = fields::number(fields::field(form.rest, 0));
+    made::make(&mut data, length as usize);
+    run(writer, form, mode, head.into_slice(), data.into_slice())
 }

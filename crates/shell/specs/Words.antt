@@ -1,8 +1,6 @@
 -- The word that names a grammar on the command line: lax, standard, strict, or a number. Assumes nothing.
-use Rattle.std.specs.Prelude.{◌≡◌, cond, ◌≢◌, List, [], ◌∷◌, ℕ, ◌+◌, ◌-◌, ◌*◌, ltb}
+use Rattle.std.specs.Prelude.{◌≡◌, cond, ◌≢◌, List, [], ◌∷◌, Option, Some, None, option_and_then, ℕ, ◌+◌, ◌-◌, ◌*◌, ltb}
 use Rattle.grammar.specs.Grammars.{lax_number, standard_number, strict_number}
-use Rattle.shell.specs.declared.choice.Choice.{Choice}
-use Rattle.shell.specs.declared.choice.Choice.TheVariants.{Number, Unknown}
 
 -- "lax", "standard" and "strict".
 abbrev pub lax : List ℕ
@@ -26,30 +24,26 @@ abbrev pub few_enough : ℕ
 few_enough = 100000000
 
 -- A number with one more character: a digit moves those before it one place to the left.
-abbrev pub extended : ℕ → ℕ → Choice
+abbrev pub extended : ℕ → ℕ → Option ℕ
 extended number c =
-    cond (ltb c first_digit) Unknown
-    (cond (ltb last_digit c) Unknown
-    (cond (ltb number few_enough) (Number (number * 10 + (c - first_digit)))
-    Unknown))
-
-abbrev pub onward : Choice → (ℕ → Choice) → Choice
-onward (Number number) next = next number
-onward Unknown next = Unknown
+    cond (ltb c first_digit) None
+    (cond (ltb last_digit c) None
+    (cond (ltb number few_enough) (Some (number * 10 + (c - first_digit)))
+    None))
 
 -- The number that characters behind a number make of it.
-unfoldable pub spelled_from : ℕ → List ℕ → Choice
-spelled_from number [] = Number number
-spelled_from number (c ∷ l) = onward (extended number c) (λ n. spelled_from n l)
+unfoldable pub spelled_from : ℕ → List ℕ → Option ℕ
+spelled_from number [] = Some number
+spelled_from number (c ∷ l) = option_and_then (λ n. spelled_from n l) (extended number c)
 
 -- The number that a word spells in decimal digits: one digit at least.
-abbrev pub spelled : List ℕ → Choice
-spelled [] = Unknown
+abbrev pub spelled : List ℕ → Option ℕ
+spelled [] = None
 spelled (c ∷ l) = spelled_from 0 (c ∷ l)
 
 -- What a word names: a grammar by its name, or else by its number, which may be one that the library does not know.
-pub record Names (word : List ℕ) (choice : Choice) : Type 0 where
-  pub is_lax : word ≡ lax → choice ≡ Number lax_number
-  pub is_standard : word ≡ standard → choice ≡ Number standard_number
-  pub is_strict : word ≡ strict → choice ≡ Number strict_number
+pub record Names (word : List ℕ) (choice : Option ℕ) : Type 0 where
+  pub is_lax : word ≡ lax → choice ≡ Some lax_number
+  pub is_standard : word ≡ standard → choice ≡ Some standard_number
+  pub is_strict : word ≡ strict → choice ≡ Some strict_number
   pub is_no_name : word ≢ lax → word ≢ standard → word ≢ strict → choice ≡ spelled word

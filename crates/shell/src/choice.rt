@@ -4,66 +4,40 @@ ghost use Rattle.shell.specs.Words.{Names, extended, spelled};
 
 use grammar::Grammar;
 
-#[derive(Clone, Copy)]
-pub enum Choice {
-    Number(u32),
-    Unknown,
-}
-
 // A number below this one may have another digit: nine digits are the most.
 const FEW_ENOUGH: u32 = 100000000;
 
 // A number with one more character.
-fn extend(number: u32, c: u8) -> Choice
+fn extend(number: u32, c: u8) -> Option<u32>
     ensures { result ≡ extended number c }
 {
-    if c < b'0' {
-        return Choice::Unknown;
-    }
-    if c > b'9' {
-        return Choice::Unknown;
-    }
-    if number < FEW_ENOUGH {
-        Choice::Number(number * 10 + (c - b'0') as u32)
-    } else {
-        Choice::Unknown
+    match c {
+        b'0'..=b'9' if number < FEW_ENOUGH => Some(number * 10 + u32::from(c - b'0')),
+        _ => None,
     }
 }
 
 // The number that a word spells.
-fn number(word: &[u8]) -> Choice
+fn number(word: &[u8]) -> Option<u32>
     ensures { result ≡ spelled word.now }
 {
-    if word.len() == 0 {
-        return Choice::Unknown;
+    if word.is_empty() {
+        return None;
     }
     let mut number = 0;
-    let mut i = 0;
-    while i < word.len() {
-        match extend(number, word[i]) {
-            Choice::Number(next) => {
-                number = next;
-            }
-            Choice::Unknown => {
-                return Choice::Unknown;
-            }
-        }
-        i += 1;
+    for c in word {
+        number = extend(number, *c)?;
     }
-    Choice::Number(number)
+    Some(number)
 }
 
-pub fn of(word: &[u8]) -> Choice
+pub fn of(word: &[u8]) -> Option<u32>
     ensures { Names word.now result }
 {
-    if word == b"lax".as_slice() {
-        return Choice::Number(Grammar::LAX);
+    match word {
+        b"lax" => Some(Grammar::LAX),
+        b"standard" => Some(Grammar::STANDARD),
+        b"strict" => Some(Grammar::STRICT),
+        _ => number(word),
     }
-    if word == b"standard".as_slice() {
-        return Choice::Number(Grammar::STANDARD);
-    }
-    if word == b"strict".as_slice() {
-        return Choice::Number(Grammar::STRICT);
-    }
-    number(word)
 }

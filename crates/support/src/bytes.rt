@@ -1,59 +1,44 @@
-// Bytes and parts of slices, at any index: what lies outside is zero to read, and left out to write.
+// Bytes that are put one behind the other into a lent buffer. What does not fit is left out.
+ghost use Rattle.std.specs.Prelude.{◌≤◌, length};
 
-// What each byte of an output is before a call.
-const STALE: u8 = 0xFF;
-
-pub fn get(bytes: &[u8], at: usize) -> u8 {
-    if at < bytes.len() { bytes[at] } else { 0 }
+#[derive(Drop)]
+pub struct Bytes<'a> {
+    buffer: &'a mut [u8],
+    end: usize,
+    ghost within: { end ≤ length buffer.now },
 }
 
-// Puts a byte at `at`, and answers where it ends.
-pub fn put(bytes: &mut [u8], at: usize, byte: u8) -> usize {
-    if at < bytes.len() {
-        bytes[at] = byte;
-        return at + 1;
+impl<'a> Bytes<'a> {
+    pub fn new(buffer: &'a mut [u8]) -> Bytes<'a> {
+        Bytes { buffer, end: 0 }
     }
-    at
-}
 
-// Makes every byte stale.
-pub fn unset(bytes: &mut [u8]) {
-    let mut i = 0;
-    while i < bytes.len() {
-        bytes[i] = STALE;
-        i += 1;
+    pub fn len(&self) -> usize {
+        self.end
     }
-}
 
-// The bytes from `start` on are zero.
-pub fn zero_from(bytes: &[u8], start: usize) -> bool {
-    let mut i = start;
-    while i < bytes.len() {
-        if bytes[i] != 0 {
-            return false;
+    pub fn push(&mut self, byte: u8) {
+        if let Some(free) = self.buffer.get_mut(self.end) {
+            *free = byte;
+            self.end += 1;
         }
-        i += 1;
     }
-    true
-}
 
-// The bytes from `start` to `end`, or all of them where there is no such part.
-pub fn part(bytes: &[u8], start: usize, end: usize) -> &[u8] {
-    if bytes.len() < end {
-        return bytes;
+    // Puts the bytes from `start` on again, so that they stand there `count` times.
+    pub fn repeat(&mut self, start: usize, count: u32) {
+        let end = self.end;
+        for _ in 1..count {
+            for i in start..end {
+                if let Some(&byte) = self.buffer.get(i) {
+                    self.push(byte);
+                }
+            }
+        }
     }
-    if end < start {
-        return bytes;
-    }
-    &bytes[start..end]
-}
 
-// The first bytes.
-pub fn first(bytes: &mut [u8], count: usize) -> &mut [u8] {
-    let start = 0;
-    if count < bytes.len() {
-        &mut bytes[start..count]
-    } else {
-        bytes
+    // What was put.
+    pub fn into_slice(self) -> &'a [u8] {
+        let Bytes { buffer, end } = self;
+        &buffer[..end]
     }
 }

@@ -6,4 +6,3 @@ pub mod expand;
 pub mod fields;
 pub mod lent;
 pub mod print;
-pub mod table;
