@@ -68,7 +68,7 @@ fn put_line(table: &GroupTable, text: &[u8], i: usize, out: &mut [u8], at: usize
 // The first alphabet character from a place on.
 #[tactic(auto, using(runs::proofs::Runs::run_imp))]
 pub fn skip_outside(values: &DecodeTable, text: &[u8], from: usize) -> usize
-    requires { (from ≤ length text.now) }
+    requires { from ≤ length text.now }
     ensures { (from ≤ result) × (result ≤ length text.now) × Outside text.now from result }
 {
     runs::end_of_run(
@@ -119,7 +119,7 @@ fn put_run(table: &GroupTable, text: &[u8], from: usize, out: &mut [u8], to: usi
 
 // Decodes the full lines that stand at a place: whether they are characters of the alphabet is told by the sums of their groups.
 pub fn put_full_lines(table: &GroupTable, text: &[u8], from: usize, out: &mut [u8]) -> Lines
-    requires { (from ≤ length text.now) }
+    requires { from ≤ length text.now }
     ensures { DecodedLines text.now true out.old out.new from result.end result.groups result.last result.lf result.crlf }
 {
     let mut end = from;
@@ -143,7 +143,7 @@ pub fn put_full_lines(table: &GroupTable, text: &[u8], from: usize, out: &mut [u
 
 // Decodes the lines of whole groups that stand at a place, with blanks at their ends: full ones first, then of any length.
 pub fn put_lines(table: &GroupTable, text: &[u8], from: usize, out: &mut [u8]) -> Lines
-    requires { (from ≤ length text.now) }
+    requires { from ≤ length text.now }
     ensures { DecodedLines text.now false out.old out.new from result.end result.groups result.last result.lf result.crlf }
 {
     let mut lines = put_full_lines(table, text, from, out);

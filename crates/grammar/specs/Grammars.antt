@@ -2,14 +2,12 @@
 -- of the rest of the body, so that a line end can speak of what follows it. Behind the last line end of a body stands the
 -- hyphen of the closing, and behind a message nothing or the hyphen of the next opening: there the rest is empty.
 -- Assumes nothing.
-use Rattle.std.specs.Prelude.{◌≡◌, ◌≢◌, ◌⊎◌, List, [], ◌∷◌, ◌++◌, cond, ℕ, suc, ◌≤◌, eqb, length, replicate}
+use Rattle.std.specs.Prelude.{◌≡◌, ◌≢◌, ◌⊎◌, List, [], ◌∷◌, ◌++◌, cond, ℕ, suc, ◌≤◌, eqb, length, replicate, Option, Some, None}
 use Rattle.base_64.specs.Lists.{All}
 use Rattle.base_64.specs.Alphabet.{AlphabetChar, pad}
 use Rattle.grammar.specs.Marks.{Blank, White, LineEnd}
 use Rattle.grammar.specs.declared.Grammar.{Grammar}
 use Rattle.grammar.specs.declared.Grammar.TheVariants.{Lax, Standard, Strict}
-use Rattle.std.specs.Prelude.{Option}
-use Rattle.std.specs.Prelude.{Some, None}
 
 -- They are called by number, and an unknown number is an ordinary input.
 abbrev pub lax_number : ℕ

@@ -1,14 +1,12 @@
 -- The line ends of a text, whatever else it holds: their kinds, what they say together, and the numbers of both.
 -- (The requirements' change request K7; style is its term.) Assumes nothing.
-use Rattle.std.specs.Prelude.{◌≡◌, ◌≢◌, cond, List, [], ◌∷◌, ◌++◌, ℕ, eqb}
+use Rattle.std.specs.Prelude.{◌≡◌, ◌≢◌, cond, List, [], ◌∷◌, ◌++◌, ℕ, eqb, Option, Some, None}
 use Rattle.base_64.specs.Lists.{All}
 use Rattle.grammar.specs.Marks.{CR, LF, LineEnd}
 use Rattle.grammar.specs.declared.LineEnding.{LineEnding}
 use Rattle.grammar.specs.declared.LineEnding.TheVariants.{Lf, CrLf, Cr}
 use Rattle.grammar.specs.declared.LineStyle.{LineStyle}
 use Rattle.grammar.specs.declared.LineStyle.TheVariants.{NoLineEnd, Only, Mixed}
-use Rattle.std.specs.Prelude.{Option}
-use Rattle.std.specs.Prelude.{Some, None}
 
 -- The bytes of a line end of each kind.
 abbrev pub line_end : LineEnding → List ℕ

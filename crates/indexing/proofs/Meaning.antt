@@ -28,7 +28,8 @@ use Rattle.machine.proofs.Bundles.{Unextended, start_behind, joined_more, unexte
 use Rattle.reading.specs.Limits.{text_limit}
 use Rattle.reading.specs.Meaning as rows
 use Rattle.reading.specs.Meaning.{Admitted, Sound}
-use Rattle.reading.specs.Read.{Judgement, layout_of, grammar_refusal, judged_parts}
+use Rattle.reading.specs.Layouts.{layout_of}
+use Rattle.reading.specs.Read.{Judgement, grammar_refusal, judged_parts}
 use Rattle.reading.specs.Scan.{no_tally, scan_of}
 use Rattle.reading.specs.declared.Refusal.{Refusal}
 use Rattle.reading.proofs.Judgements as judgements

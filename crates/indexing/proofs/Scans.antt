@@ -16,7 +16,7 @@ use Rattle.machine.proofs.Machine.{word_step, later, accepting}
 use Rattle.machine.specs.declared.State.{State}
 use Rattle.reading.specs.Scan.{no_tally, stopped, scan_of}
 use Rattle.reading.specs.declared.Scan.{Scan}
-use Rattle.reading.specs.Read.{TallyFits}
+use Rattle.reading.specs.Layouts.{TallyFits}
 use Rattle.reading.proofs.Places.{reading_fits}
 use Rattle.reading.proofs.Whole.{scanned, MessageRead, message_read}
 use Rattle.indexing.specs.Index.{StartState, scan_from}

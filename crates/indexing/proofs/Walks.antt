@@ -20,7 +20,8 @@ use Rattle.machine.proofs.Machine.{start, later, accepting}
 use Rattle.machine.specs.declared.State.{State}
 use Rattle.reading.specs.Limits.{text_limit, label_limit}
 use Rattle.reading.specs.Ends.{counted_style}
-use Rattle.reading.specs.Read.{Judgement, spanned, layout_of, found_in, labels_agree, counts_fit, spare_clear, judged_parts}
+use Rattle.reading.specs.Layouts.{spanned, layout_of}
+use Rattle.reading.specs.Read.{Judgement, found_in, labels_agree, counts_fit, spare_clear, judged_parts}
 use Rattle.reading.specs.declared.Found.{Found}
 use Rattle.reading.specs.declared.Layout.{Layout}
 use Rattle.reading.specs.declared.Refusal.{Refusal}

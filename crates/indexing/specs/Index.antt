@@ -10,7 +10,8 @@ use Rattle.machine.specs.declared.State.{State}
 use Rattle.reading.specs.Answers.{span}
 use Rattle.reading.specs.Limits.{text_limit}
 use Rattle.reading.specs.Scan.{no_tally, scan_of}
-use Rattle.reading.specs.Read.{Judgement, layout_of, grammar_refusal, judged_parts}
+use Rattle.reading.specs.Layouts.{layout_of}
+use Rattle.reading.specs.Read.{Judgement, grammar_refusal, judged_parts}
 use Rattle.reading.specs.declared.Found.{Found}
 use Rattle.reading.specs.declared.Refusal.{Refusal}
 use Rattle.reading.specs.declared.Refusal.TheVariants.{UnknownGrammar, TextTooLong}

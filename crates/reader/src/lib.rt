@@ -10,7 +10,8 @@ ghost use Rattle.decoder.specs.Decoding.{Decoded};
 ghost use Rattle.machine.proofs.Machine.{start, part_of, accepting};
 ghost use Rattle.reading.specs.Meaning.{Admitted, NotAdmitted, Reads, HandsBack, HandsBackPart};
 ghost use Rattle.reading.specs.Scan.{no_tally, scan_of};
-ghost use Rattle.reading.specs.Read.{spanned, layout_of, TallyFits, grammar_refusal, judged_parts, judged_scan, judge_of, read_of, output_of, label_of};
+ghost use Rattle.reading.specs.Layouts.{spanned, layout_of, TallyFits};
+ghost use Rattle.reading.specs.Read.{grammar_refusal, judged_parts, judged_scan, judge_of, read_of, output_of, label_of};
 
 mod message;
 

@@ -4,7 +4,8 @@ ghost use Rattle.base_64.specs.Alphabet.{value_of};
 ghost use Rattle.reading.specs.Data.{spare_of};
 ghost use Rattle.reading.specs.Ends.{counted_style};
 ghost use Rattle.reading.specs.Parts.{OwnPart};
-ghost use Rattle.reading.specs.Read.{Fits, TallyFits, Lies, spanned, layout_of, labels_agree, counts_fit, last_at, spare_zero, spare_clear, found_in, judged_parts};
+ghost use Rattle.reading.specs.Layouts.{Fits, TallyFits, Lies, spanned, layout_of, last_at};
+ghost use Rattle.reading.specs.Read.{labels_agree, counts_fit, spare_zero, spare_clear, found_in, judged_parts};
 
 use base_64::DecodeTable;
 use grammar::{Grammar, LineEnding, LineStyle, TextOffset};

@@ -30,7 +30,8 @@ use Rattle.reading.specs.Meaning as rows
 use Rattle.reading.specs.Meaning.{label_start, body_start, closing_start, closing_label_start, Sound, GrammarFails, MessageFails}
 use Rattle.reading.specs.Data.{spare_of}
 use Rattle.reading.specs.Ends.{ends_in, counted_style}
-use Rattle.reading.specs.Read.{Judgement, layout_of, grammar_refusal, counts_fit, spare_asked, spare_clear, judged_parts}
+use Rattle.reading.specs.Layouts.{layout_of}
+use Rattle.reading.specs.Read.{Judgement, grammar_refusal, counts_fit, spare_asked, spare_clear, judged_parts}
 use Rattle.reading.specs.declared.Found.{Found}
 use Rattle.std.specs.Prelude.{Ok, Err}
 use Rattle.reading.specs.declared.Refusal.{Refusal}

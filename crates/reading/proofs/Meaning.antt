@@ -29,7 +29,8 @@ use Rattle.reading.specs.Parts.{OwnPart}
 use Rattle.reading.specs.Answers.{span, ReadAnswer}
 use Rattle.reading.specs.Label.{label_span, label_span_of}
 use Rattle.reading.specs.Ends.{ends_in, counted_style}
-use Rattle.reading.specs.Read.{Judgement, spanned, layout_of, TallyFits, Lies, grammar_refusal, is_whole, judged_parts, judged_scan, judged_by, judge_of, answered, read_of, written, output_of, label_in, label_of}
+use Rattle.reading.specs.Layouts.{spanned, layout_of, TallyFits, Lies}
+use Rattle.reading.specs.Read.{Judgement, grammar_refusal, is_whole, judged_parts, judged_scan, judged_by, judge_of, answered, read_of, written, output_of, label_in, label_of}
 use Rattle.reading.specs.declared.Found.{Found}
 use Rattle.reading.specs.declared.Refusal.{Refusal}
 use Rattle.reading.specs.declared.Sound.{Sound}

@@ -1,7 +1,7 @@
 -- The parts of a reading are where its layout says. Assumes nothing.
 use mathlib.Core.Path.{◌≡◌, refl, ap, ◌∙◌}
 use mathlib.Core.List.{List, ◌++◌, append_assoc}
-use Prim.Native.Nat.{ℕ, ◌+◌, ◌≤◌}
+use Prim.Native.Nat.{ℕ, ◌+◌}
 use lib.ListN.{length, take, length-append}
 use lib.Seq.{take_at, drop_at}
 use native.Mathlib.Omega.{arith}
@@ -10,10 +10,9 @@ use Rattle.grammar.specs.Message.{Reading, text_of}
 use Rattle.reading.specs.Answers.{offset, span}
 use Rattle.reading.specs.Meaning.{label_start, body_start, closing_start, closing_label_start}
 use Rattle.reading.specs.Scan.{tally}
-use Rattle.reading.specs.Read.{spanned, layout_of, TallyFits}
+use Rattle.reading.specs.Layouts.{spanned, layout_of, TallyFits}
 use Rattle.reading.specs.declared.Layout.{Layout}
 use Rattle.reading.specs.declared.EndCounts.{EndCounts}
-use Rattle.reading.specs.declared.Tally.{Tally}
 use Rattle.reading.proofs.Tallies.{tally_of, last_within, characters_short}
 
 -- Where the parts of a reading are, whose text starts at an offset.

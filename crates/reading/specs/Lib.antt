@@ -6,6 +6,7 @@ pub mod Meaning
 pub mod Data
 pub mod Ends
 pub mod Scan
+pub mod Layouts
 pub mod Read
 pub mod Label
 pub mod Claims

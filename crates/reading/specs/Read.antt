@@ -1,10 +1,9 @@
 -- What `read` and `label` answer, as functions of the text, the grammar's number and the output's length alone, check by
 -- check in the requirements' order. Assumes nothing. None of this has to be believed: see `Meaning`.
-use Rattle.std.specs.Prelude.{Bool, true, false, cond, List, [], ◌++◌, ℕ, ◌+◌, ◌*◌, ◌-◌, ◌/◌, ◌%◌, ◌^◌, ◌≤◌, ◌<◌, eqb, ltb, length, take, drop, get_or, replicate, Option, Some, None, Result, Ok, Err}
+use Rattle.std.specs.Prelude.{Bool, true, false, cond, List, [], ◌++◌, ℕ, ◌*◌, ◌-◌, ◌/◌, ◌%◌, eqb, ltb, length, get_or, replicate, Option, Some, None, Result, Ok, Err}
 use Rattle.base_64.specs.Lists.{same_bytes}
 use Rattle.base_64.specs.Alphabet.{value_of}
 use Rattle.base_64.specs.Groups.{decode}
-use Rattle.grammar.specs.Marks.{begin, end, hyphens}
 use Rattle.grammar.specs.Grammars.{grammar_of}
 use Rattle.grammar.specs.Families.{family_of}
 use Rattle.grammar.specs.Message.{characters}
@@ -14,9 +13,10 @@ use Rattle.output.specs.declared.CallError.TheVariants.{Refused, TooSmall}
 use Rattle.machine.proofs.Machine.{start, part_of, accepting}
 use Rattle.machine.specs.declared.Part.{Part}
 use Rattle.machine.specs.declared.Part.TheVariants as part
-use Rattle.reading.specs.Answers.{offset, byte_count, span, ReadAnswer}
+use Rattle.reading.specs.Answers.{offset, byte_count, ReadAnswer}
 use Rattle.reading.specs.Limits.{text_limit, label_limit}
 use Rattle.reading.specs.Data.{spare_of}
+use Rattle.reading.specs.Layouts.{spanned, layout_of, last_at}
 use Rattle.reading.specs.Ends.{counted_style}
 use Rattle.reading.specs.Scan.{no_tally, scan_of}
 use Rattle.reading.specs.declared.Found.{Found}
@@ -25,48 +25,11 @@ use Rattle.reading.specs.declared.Refusal.{Refusal}
 use Rattle.reading.specs.declared.Refusal.TheVariants.{UnknownGrammar, TextTooLong, BadOpening, BadBody, BadClosing, LabelTooLong, LabelsDiffer, BadCounts, SpareBits}
 use Rattle.reading.specs.declared.Scan.{Scan}
 use Rattle.reading.specs.declared.Sound.{Sound}
-use Rattle.reading.specs.declared.Span.{Span}
 use Rattle.reading.specs.declared.Tally.{Tally}
 
 -- The outcome of checks: what is known of a message that passed them, or the first refusal.
 abbrev pub Judgement : Type 0
 Judgement = Result Sound Refusal
-
--- ---- Where the parts of a message are
-
--- The bytes of a part.
-abbrev pub spanned : List ℕ → Span → List ℕ
-spanned text s = take s.length (drop s.at.0 text)
-
--- The parts of a message that starts at an offset of the text, from the numbers of its bytes.
-abbrev pub layout_of : ℕ → Tally → Layout
-layout_of from t =
-    record {
-      opened = span (from + t.before + length begin) (t.opening - (length begin + length hyphens));
-      body = span (from + t.before + t.opening) t.body;
-      closing = offset (from + t.before + t.opening + t.body);
-      closed = span (from + t.before + t.opening + t.body + length end) (t.closing - (length end + length hyphens));
-    }
-
--- The tally of a whole message that starts at an offset: what code that adds it up has to know.
-abbrev pub Fits : ℕ → Tally → Type 0
-Fits from t =
-    (from + t.before + t.opening + t.body + t.closing < 2 ^ 64)
-    × (length begin + length hyphens ≤ t.opening)
-    × (length end + length hyphens ≤ t.closing)
-    × (t.last ≤ t.body)
-
--- A tally within so many bytes: what code has to know of a message that was scanned.
-pub record TallyFits (n : ℕ) (t : Tally) : Type 0 where
-  pub opening : length begin + length hyphens ≤ t.opening
-  pub closing : length end + length hyphens ≤ t.closing
-  pub sum : t.before + t.opening + t.body + t.closing ≤ n
-  pub characters : t.characters ≤ t.body
-  pub last : t.last ≤ t.body
-
--- A layout within a text of this length.
-abbrev pub Lies : ℕ → Layout → Type 0
-Lies n l = (l.opened.at.0 + l.opened.length ≤ n) × (l.closed.at.0 + l.closed.length ≤ n)
 
 -- ---- Checks 3 to 5
 
@@ -88,10 +51,6 @@ labels_agree text l = same_bytes (spanned text l.opened) (spanned text l.closed)
 
 abbrev pub counts_fit : ℕ → ℕ → Bool
 counts_fit n p = cond (eqb (n % 4) 0) (eqb p 0) (cond (eqb (n % 4) 2) (eqb p 2) (cond (eqb (n % 4) 3) (eqb p 1) false))
-
--- The last alphabet character of a body, by the bytes of the body before it.
-abbrev pub last_at : Layout → Tally → ℕ
-last_at l t = l.body.at.0 + t.last
 
 abbrev pub spare_zero : List ℕ → Layout → Tally → Bool
 spare_zero text l t = eqb (spare_of t.characters (value_of (get_or text (last_at l t) 0))) 0

@@ -1,5 +1,5 @@
 -- Rows of samples: a text, and what the read call answers to it under each grammar. Assumes nothing.
-use Rattle.std.specs.Prelude.{List, [], ◌∷◌, ◌++◌, ℕ, ◌-◌, length, replicate, Option, Some, None, Ok, Err}
+use Rattle.std.specs.Prelude.{List, [], ◌∷◌, ◌++◌, ℕ, ◌-◌, length, replicate, Option, None, Ok, Err}
 use Rattle.output.specs.declared.CallError.TheVariants.{Refused, TooSmall}
 use Rattle.grammar.specs.Grammars.{lax_number, standard_number, strict_number}
 use Rattle.grammar.specs.declared.Family.{Family}

@@ -172,7 +172,7 @@ pub fn pads_at(text: &[u8], at: usize) -> usize
 
 // What stands at a place: a run of characters, which is likely to be short or not, blanks, a line end.
 pub fn line_at(values: &DecodeTable, text: &[u8], at: usize, short: bool) -> Line
-    requires { (at ≤ length text.now) }
+    requires { at ≤ length text.now }
     ensures { IsLine text.now at result.characters result.blanks result.line_end }
 {
     let characters = run_end(values, text, at, text.len(), short);

@@ -413,7 +413,7 @@ pub fn scan_text(
     grammar: Grammar,
     first: State,
 ) -> Scan
-    requires { (from.0 ≤ length text.now) }
+    requires { from.0 ≤ length text.now }
     ensures { result ≡ scan_of grammar first 0 no_tally (drop from.0 text.now) }
 {
     let scanner = Scanner {

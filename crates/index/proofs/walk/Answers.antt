@@ -6,7 +6,8 @@ use Rattle.grammar.specs.declared.Grammar.{Grammar}
 use Rattle.machine.proofs.Machine.{later, accepting}
 use Rattle.machine.specs.declared.State.{State}
 use Rattle.reading.specs.Limits.{text_limit}
-use Rattle.reading.specs.Read.{TallyFits, Judgement}
+use Rattle.reading.specs.Layouts.{TallyFits}
+use Rattle.reading.specs.Read.{Judgement}
 use Rattle.reading.specs.declared.Scan.{Scan}
 use Rattle.reading.specs.declared.Sound.{Sound}
 use Rattle.reading.proofs.Whole.{stops}

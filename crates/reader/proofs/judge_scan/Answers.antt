@@ -5,7 +5,8 @@ use borrow.Author.Tests.{eq-eqb}
 use Rattle.grammar.specs.declared.Grammar.{Grammar}
 use Rattle.machine.proofs.Machine.{start, accepting}
 use Rattle.reading.specs.Scan.{no_tally, scan_of}
-use Rattle.reading.specs.Read.{TallyFits, is_whole}
+use Rattle.reading.specs.Layouts.{TallyFits}
+use Rattle.reading.specs.Read.{is_whole}
 use Rattle.reading.specs.declared.Scan.{Scan}
 use Rattle.reading.proofs.Meaning.{whole_fits}
 use Rattle.reader.proofs.judge_scan.Goals as goal

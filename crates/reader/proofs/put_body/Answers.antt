@@ -9,7 +9,7 @@ use Rattle.runs.proofs.Runs.{between_join}
 use Rattle.runs.proofs.Alphabet.{outside_characters}
 use Rattle.decoder.specs.Decoding.{Decoded}
 use Rattle.decoder.proofs.Decoding.{decoded_decoding}
-use Rattle.reading.specs.Read.{spanned}
+use Rattle.reading.specs.Layouts.{spanned}
 use Rattle.reading.specs.declared.Span.{Span}
 use Rattle.reader.proofs.put_body.Goals as goal
 

@@ -10,7 +10,8 @@ use Rattle.output.specs.declared.CallError.TheVariants.{TooSmall}
 use Rattle.output.proofs.Calls.{ok_holds}
 use Rattle.reading.specs.Answers.{ReadAnswer}
 use Rattle.reading.specs.Meaning.{Reads}
-use Rattle.reading.specs.Read.{Judgement, spanned, judge_of, answered, read_of, written, output_of}
+use Rattle.reading.specs.Layouts.{spanned}
+use Rattle.reading.specs.Read.{Judgement, judge_of, answered, read_of, written, output_of}
 use Rattle.reading.specs.declared.Accepted.{Accepted}
 use Rattle.reading.proofs.Meaning.{read_means}
 use Rattle.reader.proofs.read.Goals as goal
