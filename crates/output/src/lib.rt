@@ -25,7 +25,11 @@ pub fn clear_from(out: &mut [u8], from: usize)
     requires { from ≤ length out.old }
     ensures { out.new ≡ take from out.old ++ replicate (length out.old - from) 0 }
 {
-    out[from..].fill(0);
+    let mut i = from;
+    while i < out.len() {
+        out[i] = 0;
+        i += 1;
+    }
 }
 
 // Sets every byte to zero.
