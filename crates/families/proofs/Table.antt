@@ -1,16 +1,15 @@
 -- The table of known labels: its rows are those of `known_labels`, in arrays of one length. Assumes nothing.
-use mathlib.Core.Path.{◌≡◌, refl, sym, ap, ◌∙◌}
+use mathlib.Core.Path.{◌≡◌, sym, ap, ◌∙◌}
 use mathlib.Core.Logic.{◌≢◌}
 use mathlib.Core.Bool.{Bool, true, false, cond}
 use mathlib.Core.List.{List, [], ◌∷◌, map}
 use Prim.Native.Nat.{ℕ, zero, suc, ◌+◌, ◌≤◌, ◌<◌}
 use native.Mathlib.Omega.{arith}
-use lib.Pointwise.{pointwise}
-use lib.Dec.{T, eqb, ltb, ltb→lt}
+use lib.Dec.{T, ltb, ltb→lt}
 use lib.ListN.{length, drop, get_or, drop_of_length-le}
 use Rattle.std.specs.Prelude.{Some, None}
 use Rattle.base_64.specs.Lists.{All, same_bytes}
-use Rattle.base_64.proofs.Lists.{all_test, all_tested, same_slices}
+use Rattle.base_64.proofs.Lists.{all_test, all_tested}
 use Rattle.grammar.specs.Families.{KnownLabel, known_labels, family_in}
 use Rattle.families.specs.Arrays.{padded, unpadded}
 use Rattle.families.specs.declared.KnownLabel as declared
@@ -56,10 +55,6 @@ row_found i h z label e = sym ((row_at i h z).tells label ∙ rw e)
 pub row_passed : (i : ℕ) → i < length known_labels → (z : declared.KnownLabel) (label : List ℕ)
     → same_bytes (unpadded (get_or (map row_of known_labels) i z).padded) label ≡ false → family_in (drop (i + 1) known_labels) label ≡ family_in (drop i known_labels) label
 row_passed i h z label e = sym ((row_at i h z).tells label ∙ rw e)
-
--- The comparison of slices is the one of the definition.
-pub compared : {shown a : List ℕ} (b : List ℕ) {t : Bool} → shown ≡ a → t ≡ pointwise eqb shown b → same_bytes a b ≡ t
-compared {a = a} b e f = sym (f ∙ ap (λ l. pointwise eqb l b) e ∙ same_slices a b)
 
 -- Behind the last of them there is none.
 pub none_left : (i : ℕ) → length known_labels ≤ i → (label : List ℕ) → family_in (drop i known_labels) label ≡ None

@@ -1,8 +1,8 @@
 // The families of labels: the table of the labels that have one, and the search in it.
 #![tactic(auto)]
 
-ghost use Rattle.std.specs.Prelude.{◌≡◌, ◌==◌};
-ghost use Rattle.std.specs.List.{position};
+ghost use Rattle.std.specs.Prelude.{◌≡◌, ◌==◌, get_or};
+ghost use Rattle.base_64.specs.Lists.{same_bytes};
 ghost use Rattle.grammar.specs.Families.{family_of};
 ghost use Rattle.families.specs.Arrays.{unpadded};
 
@@ -16,21 +16,22 @@ struct KnownLabel {
 }
 
 impl KnownLabel {
-    // Where its zeros begin, if it has any.
-    fn end(&self) -> Option<usize>
-        ensures { result ≡ position (λ b. b == 0) self.now.padded }
+    // Whether behind so many bytes a zero stands, or nothing.
+    fn ends_at(&self, length: usize) -> bool
+        ensures { result ≡ (get_or self.now.padded length 0 == 0) }
     {
-        self.padded.iter().position(|b| *b == 0)
+        match self.padded.get(length) {
+            Some(b) => *b == 0,
+            None => true,
+        }
     }
 
-    // The label, without the zeros.
-    fn label(&self) -> &[u8]
-        ensures { result.now ≡ unpadded self.now.padded }
+    // Whether a label is this one. The other labels of a row's length are few, so that is asked first.
+    #[tactic(auto, using(crate::proofs::Arrays::told))]
+    fn is_label(&self, label: &[u8]) -> bool
+        ensures { result ≡ same_bytes (unpadded self.now.padded) label.now }
     {
-        match self.end() {
-            Some(end) => &self.padded[..end],
-            None => &self.padded,
-        }
+        self.ends_at(label.len()) && self.padded.starts_with(label) && !label.contains(&0)
     }
 }
 
@@ -91,7 +92,7 @@ pub fn family_of(label: &[u8]) -> Option<Family>
     ensures { result ≡ family_of label.now }
 {
     for known in KNOWN_LABELS {
-        if known.label() == label {
+        if known.is_label(label) {
             return Some(known.family);
         }
     }
