@@ -43,12 +43,11 @@ pub fn end_of_run<F: Fn(u8) -> bool>(text: &[u8], from: usize, limit: usize, pas
     requires { (from ≤ limit) × (limit ≤ length text.now) × F.IsAlwaysCallable passes }
     ensures { (from ≤ result) × (result ≤ limit) × Run (λ c. F.post passes c true) text.now from result }
 {
-    for at in from..limit {
-        if !passes(text[at]) {
-            return at;
-        }
+    let mut at = from;
+    while at < limit && passes(text[at]) {
+        at += 1;
     }
-    limit
+    at
 }
 
 // 0 for a character of the alphabet, 1 for another byte. For whole blocks alone, and by plain comparisons where all else goes by
