@@ -1,16 +1,17 @@
 -- What is put step by step is put. Assumes nothing.
-use mathlib.Core.Path.{◌≡◌, refl, ap, ◌∙◌}
+use mathlib.Core.Path.{◌≡◌, refl, sym, ap, ◌∙◌}
 use mathlib.Core.Logic.{◌⊎◌}
-use mathlib.Core.List.{List, ◌++◌}
+use mathlib.Core.List.{List, [], ◌∷◌, ◌++◌}
 use Prim.Native.Nat.{ℕ, min, ◌+◌, ◌-◌, ◌≤◌, ◌<◌}
 use native.Mathlib.Omega.{arith}
-use lib.ListN.{length, take, drop, length-append, length-take, length-drop}
+use lib.ListN.{length, get_or, take, drop, length-append, length-take, length-drop}
 use borrow.Rule.Slice.PartMut.{put_mid}
+use Rattle.std.proofs.lemmas.List.{take_more}
 use Rattle.base_64.specs.Groups.{encode}
 use Rattle.base_64.proofs.Groups.{length_encode}
 use Rattle.grammar.specs.Grammars.{line_chars}
 use Rattle.writing.specs.Text.{in_lines, written_lines}
-use Rattle.writing.proofs.Placed.{Put, placed, placed_part, put_more, put_size}
+use Rattle.writing.proofs.Placed.{Put, placed, placed_part, put_none, put_more, put_size}
 use Rattle.writing.proofs.Progress.{group_chars, line_break, room_then, group_text, lined_none, lined_same, lined_room, group_room, lined_group, lined_all, begin_room, chars_room, line_lined}
 use Rattle.writer.specs.Steps.{HasRoom, Puts, PutsLines}
 use Rattle.writer.specs.declared.text.TextWriter.{TextWriter}
@@ -28,6 +29,17 @@ module _ {old mid : TextWriter} {a : List ℕ} (p : Puts old a mid) (b : List �
 
   pub puts_then : {new : TextWriter} → Puts mid b new → Puts old (a ++ b) new
   puts_then q = record { lent = q.lent ∙ p.lent; ending = q.ending ∙ p.ending; put = put_more a b p.put q.put h }
+
+-- The first bytes of some, and the next one.
+pub puts_none : (w : TextWriter) → Puts w [] w
+puts_none w = record { lent = refl; ending = refl; put = put_none w.out.now w.at }
+
+module _ {old now : TextWriter} (bytes : List ℕ) (i : ℕ) (p : Puts old (take i bytes) now) (fits : HasRoom old bytes) (h : i < length bytes) where
+  pub byte_room : HasRoom now (get_or bytes i 0 ∷ [])
+  byte_room = omega (arith, p.put.ends, length-take i bytes, put_size p.put (omega (arith, length-take i bytes)))
+
+  pub byte_puts : {new : TextWriter} → Puts now (get_or bytes i 0 ∷ []) new → Puts old (take (i + 1) bytes) new
+  byte_puts q = puts_same (sym (take_more bytes i 0 h)) (puts_then p (get_or bytes i 0 ∷ []) (omega (arith, length-append (take i bytes) (get_or bytes i 0 ∷ []), length-take i bytes)) q)
 
 pub lines_none : (w : TextWriter) (content : List ℕ) → w.room ≡ line_chars → PutsLines w content content w
 lines_none w content e = record { lent = refl; ending = refl; lined = rw e (lined_none w.ending content w.out.now w.at) }
