@@ -66,7 +66,7 @@ const DECODE_TABLE: [u8; 256] = *b"\
 
 // The alphabet as a table. An entry function binds it once and lends it to the functions below it, since a constant is
 // stored anew wherever it is named.
-#[derive(Drop)]
+#[derive(Clone, Copy)]
 pub struct EncodeTable {
     chars: [u8; 64],
     pub ghost rule: { chars ≡ alphabet.alphabet },
@@ -86,7 +86,7 @@ impl EncodeTable {
 }
 
 // The value of each byte as a table, bound and lent in the same way.
-#[derive(Drop)]
+#[derive(Clone, Copy)]
 pub struct DecodeTable {
     entries: [u8; 256],
     pub ghost rule: { values.DecodeTable entries },

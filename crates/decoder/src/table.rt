@@ -9,7 +9,7 @@ pub const MARK: u64 = 268435456;
 
 // What each character adds to the number of its group, for each of the four places in a group. An entry function binds it once and
 // lends it to the functions below it, since a constant is stored anew wherever it is named.
-#[derive(Drop)]
+#[derive(Clone, Copy)]
 pub struct GroupTable {
     entries: [[u32; 256]; 4],
     pub ghost rule: { entries ≡ entries_of 0 ∷ entries_of 1 ∷ entries_of 2 ∷ entries_of 3 ∷ [] },
