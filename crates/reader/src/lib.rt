@@ -18,17 +18,18 @@ mod message;
 use base_64::DecodeTable;
 use decoder::GroupTable;
 use grammar::{Grammar, TextOffset};
-use machine::{Part, Phase};
+use machine::Part;
 use message::{Message, part_at};
+pub use message::{judge_parts, lay_out};
 use output::CallError;
 use reading::{Accepted, Judgement, ReadAnswer, Refusal, Scan, Sound, Span, TEXT_LIMIT};
 use scanner::DecodingScan;
 
 // The refusal where the grammar fails: the part that was being read decides.
-fn grammar_refusal(phase: Phase, place: TextOffset) -> Refusal
-    ensures { result ≡ grammar_refusal (part_of phase) place.0 }
+pub fn grammar_refusal(part: Part, place: TextOffset) -> Refusal
+    ensures { result ≡ grammar_refusal part place.0 }
 {
-    match engine::part_of(phase) {
+    match part {
         Part::Before | Part::Opening => Refusal::BadOpening(place),
         Part::Body => Refusal::BadBody(place),
         Part::Closing | Part::After => Refusal::BadClosing(place),
@@ -60,7 +61,7 @@ pub fn judge_message(
 {
     if !engine::is_accepting(scan.phase) {
         let place = TextOffset(from.0 + scan.length);
-        return Err(grammar_refusal(scan.phase, place));
+        return Err(grammar_refusal(engine::part_of(scan.phase), place));
     }
     Message::new(text, from, scan.tally).judge(values, grammar)
 }
@@ -71,7 +72,8 @@ fn judge_scan(values: &DecodeTable, text: &[u8], grammar: Grammar, scan: Scan) -
     ensures { result ≡ judged_scan grammar text.now scan }
 {
     if scan.length != text.len() {
-        return Err(grammar_refusal(scan.phase, TextOffset(scan.length)));
+        let place = TextOffset(scan.length);
+        return Err(grammar_refusal(engine::part_of(scan.phase), place));
     }
     judge_message(values, text, grammar, TextOffset(0), scan)
 }

@@ -60,7 +60,7 @@ pub(crate) fn part_at(text: &[u8], span: Span) -> &[u8]
 }
 
 // Where the parts of a message are that starts at an offset.
-fn lay_out(from: TextOffset, tally: Tally) -> Layout
+pub fn lay_out(from: TextOffset, tally: Tally) -> Layout
     requires { Fits from.0 tally }
     ensures { result ≡ layout_of from.0 tally }
 {
@@ -177,4 +177,23 @@ impl<'a> Message<'a> {
             style: counted_style(self.tally.ends),
         })
     }
+}
+
+// The checks 6 to 9 of a message of the grammar that is laid out like this.
+pub fn judge_parts(
+    values: &DecodeTable,
+    text: &[u8],
+    grammar: Grammar,
+    layout: Layout,
+    tally: Tally,
+) -> Judgement
+    requires { Lies (length text.now) layout × (last_at layout tally < length text.now) }
+    ensures { result ≡ judged_parts grammar text.now layout tally }
+{
+    Message {
+        text,
+        layout,
+        tally,
+    }
+    .judge(values, grammar)
 }
