@@ -45,7 +45,8 @@ pub fn body_line(phase: Phase) -> Option<Grammar>
         Phase::Lax(LaxPhase::Data) => Some(Grammar::Lax),
         Phase::Standard(StandardPhase::Leading | StandardPhase::BlankLine | StandardPhase::Line) =>
             { Some(Grammar::Standard) }
-        Phase::Strict(StrictPhase::First | StrictPhase::Line) => Some(Grammar::Strict),
+        Phase::Strict(StrictPhase::First) => Some(Grammar::Strict),
+        Phase::Strict(StrictPhase::Line) => Some(Grammar::Strict),
         _ => None,
     }
 }

@@ -12,3 +12,6 @@ returns-in-Standard-Leading c = let e : line_grammar c.args.phase ≡ Some gramm
 
 pub returns-in-Strict-First : goal.returns-in-Strict-First
 returns-in-Strict-First c = let e : line_grammar c.args.phase ≡ Some grammar.Strict = search rules in rw e at (lines_from c.args.phase)
+
+pub returns-in-Strict-Line : goal.returns-in-Strict-Line
+returns-in-Strict-Line c = let e : line_grammar c.args.phase ≡ Some grammar.Strict = search rules in rw e at (lines_from c.args.phase)
