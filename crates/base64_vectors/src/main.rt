@@ -77,9 +77,11 @@ fn decode(writer: &mut impl Write, values: &DecodeTable, text: &[u8]) -> io::Res
 
 // The characters in the order of their values.
 fn every_value(writer: &mut impl Write, chars: &EncodeTable) -> io::Result<()> {
-    for value in 0..RADIX {
-        put(writer, chars.char_of(Sextet::low(value)))?;
+    let mut line = [0; 64];
+    for (c, value) in line.iter_mut().zip(0..RADIX) {
+        *c = chars.char_of(Sextet::low(value));
     }
+    writer.write_all(&line)?;
     writeln!(writer)
 }
 

@@ -88,9 +88,20 @@ fn sample(writer: &mut impl Write, form: Form) -> io::Result<()> {
     }
 }
 
+// The sample at the start of some bytes. The '@' of the next one belongs to its last field, of which that is a part only where it is
+// the name.
+fn first_sample(forms: &[u8]) -> &[u8] {
+    match forms.iter().position(|c| *c == b'@') {
+        Some(end) => &forms[..end + 1],
+        None => forms,
+    }
+}
+
 fn samples(writer: &mut impl Write, forms: &[u8]) -> io::Result<()> {
-    for form in forms.split(|c| *c == b'@').skip(1) {
-        sample(writer, Form::from(form))?;
+    for (i, c) in forms.iter().enumerate() {
+        if *c == b'@' {
+            sample(writer, Form::from(first_sample(&forms[i + 1..])))?;
+        }
     }
     Ok(())
 }

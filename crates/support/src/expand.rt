@@ -23,7 +23,7 @@ pub fn expand(form: &[u8], count: u32, text: &mut Bytes) {
     let mut unit = 0;
     for c in form {
         match *c {
-            b'\n' => {}
+            b'\n' | b'@' => {}
             b'{' => unit = text.len(),
             b'}' => text.repeat(unit, count),
             c => text.push(meaning(c)),

@@ -11,12 +11,12 @@ pub fn rest(form: &[u8], k: usize) -> &[u8] {
     form.splitn(parts, |c| *c == b':').nth(k).unwrap_or(&[])
 }
 
-// The number that the digits of a field spell, modulo 2 to the 32.
+// The number that a field spells, modulo 2 to the 32. Each byte up to '9' counts as a digit, by its low four bits.
 pub fn number(field: &[u8]) -> u32 {
     field
         .iter()
-        .filter_map(|c| char::from(*c).to_digit(10))
-        .fold(0u32, |number, digit| {
-            number.wrapping_mul(10).wrapping_add(digit)
+        .filter(|c| **c <= b'9')
+        .fold(0u32, |number, c| {
+            number.wrapping_mul(10).wrapping_add(u32::from(*c % 16))
         })
 }
